@@ -1,0 +1,2 @@
+mod Handing
+mod Over

@@ -1,0 +1,61 @@
+use native.Mathlib.Omega.{arith}
+use mathlib.Core.Path.{ap}
+use Rattle.ttc.specs.Interval.{told}
+use Rattle.archive.proofs.Handing.{no-row, refuses, answers}
+use borrow.Author.Needs.{needs}
+use Rattle.archive.proofs.timer.ogr_ttc.Statement.{statement}
+use Rattle.archive.proofs.timer.ogr_ttc.Tie as tie
+
+no-room-requires : tie.Need-no-room-requires
+no-room-requires c κs = search needs
+
+returns : tie.Need-returns
+returns c = no-row (c .before .if1 .taken) (c .no-room .ensures)
+
+calc-prescaler-reg-and-interval-ticks-requires :
+    tie.Need-calc-prescaler-reg-and-interval-ticks-requires
+calc-prescaler-reg-and-interval-ticks-requires c κs = search needs
+
+enum-known-s : tie.Need-enum-known-s
+enum-known-s c = search needs
+
+prescaler-word-requires : tie.Need-prescaler-word-requires
+prescaler-word-requires c κs = search needs
+
+cast-t12 : tie.Need-cast-t12
+cast-t12 c = search needs
+
+slice-aggregate-put : tie.Need-slice-aggregate-put
+slice-aggregate-put c = search needs
+
+put-requires : tie.Need-put-requires
+put-requires c κs = search needs
+
+enum-told : tie.Need-enum-told
+enum-told c = search needs
+
+same-length : tie.Need-same-length
+same-length c = search needs
+
+returns-2 : tie.Need-returns-2
+returns-2 c = answers (omega arith) (c .before .before .before .before .before .before .before .before .before .before .calc-prescaler-reg-and-interval-ticks .ensures) (ap told (c .before .before .before .before .before .before .before .before .s .given .1)) (cc)
+
+returns-3 : tie.Need-returns-3
+returns-3 c = refuses (omega arith) (c .before .before .calc-prescaler-reg-and-interval-ticks .ensures) (ap told (c .enum-told .given .1))
+
+pub ogr-ttc-spec : {M : Type 1} → statement M
+ogr-ttc-spec =
+    tie.close
+    (tie.spec
+    no-room-requires
+    returns
+    calc-prescaler-reg-and-interval-ticks-requires
+    enum-known-s
+    prescaler-word-requires
+    cast-t12
+    slice-aggregate-put
+    put-requires
+    enum-told
+    same-length
+    returns-2
+    returns-3)

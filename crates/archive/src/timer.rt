@@ -1,0 +1,38 @@
+// The TTC's prescaler and interval ticks.
+use crate::rows::no_room;
+use crate::rows::put;
+use ttc::Interval;
+use ttc::PrescalerReg;
+use ttc::calc_prescaler_reg_and_interval_ticks;
+ghost use mathlib.Core.Path.{_≡_};
+ghost use Rattle.ttc.specs.Interval.{Right};
+ghost use Rattle.archive.specs.Handed.{Handed};
+ghost use Rattle.archive.specs.Words.{intervalWords, prescalerWord};
+
+fn prescaler_word(p: PrescalerReg) -> u32
+    ensures { λ r. ⌜ r ≡ prescalerWord p ⌝ }
+{
+    match p {
+        PrescalerReg::None => 0,
+        PrescalerReg::Value(v) => v as u32 + 1,
+    }
+}
+
+// Two words: 0 for no prescaler or the prescaler's value and 1, and the ticks.
+#[no_mangle]
+pub extern "C" fn ogr_ttc(reference: u32, frequency: u32, out: &mut [u32]) -> u64
+    ensures { λ r. ⌜ Handed intervalWords 2 (Right reference frequency) (now (out .entry)) r (now (out .exit)) ⌝ }
+{
+    if out.len() < 2 {
+        return no_room(2);
+    }
+    match calc_prescaler_reg_and_interval_ticks(reference, frequency) {
+        Interval::Found(s) => {
+            let p = s.prescaler_reg;
+            let words = [prescaler_word(p), s.interval_ticks as u32];
+            put(out, &words);
+            0
+        }
+        Interval::ZeroTarget => 6,
+    }
+}

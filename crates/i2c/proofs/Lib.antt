@@ -1,0 +1,4 @@
+pub mod Laws
+pub mod Row
+pub mod Search
+pub mod Test

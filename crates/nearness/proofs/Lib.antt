@@ -1,0 +1,4 @@
+pub mod Distance
+pub mod Falling
+pub mod Rows
+pub mod Upto
