@@ -1,0 +1,158 @@
+//! Times both sides on the same inputs, alternating, in several rounds.
+use crate::generate::Generator;
+use crate::judge::ruled;
+use crate::request::{SUBJECTS, Subject};
+use crate::rng::Rng;
+use std::hint::black_box;
+use std::time::{Duration, Instant};
+
+/// About how long a side is at work in a round: short, so that whatever else the machine does falls into few of
+/// them and the median does not see it.
+const ROUND: Duration = Duration::from_millis(1);
+
+/// Inputs of one call, all of one width, one after the other.
+pub struct Inputs {
+    numbers: Vec<u32>,
+    width: usize,
+    /// A round takes so many of them, and goes over them so often.
+    taken: usize,
+    repeats: usize,
+    /// Where the round's inputs begin.
+    begin: usize,
+}
+
+/// One side's way over all inputs: how long it took, and the sum of a number out of each answer.
+pub struct Pass {
+    time: Duration,
+    sum: u32,
+}
+
+/// A side that can be timed; it has no calls for what is not timed.
+pub type Timed = fn(Subject, &Inputs) -> Option<Pass>;
+
+impl Inputs {
+    fn new(subject: Subject, seed: u64, count: usize) -> Self {
+        let generator = Generator::of(subject);
+        let rng = Rng::new(seed, subject as u64);
+        let drawn = std::iter::repeat_with(|| generator.random(&rng));
+        let requests: Vec<Vec<u32>> = drawn
+            .filter(|request| ruled(request).is_none())
+            .map(|request| request.numbers)
+            .take(count.max(1))
+            .collect();
+        Self {
+            width: requests[0].len(),
+            taken: requests.len(),
+            numbers: requests.concat(),
+            repeats: 1,
+            begin: 0,
+        }
+    }
+
+    /// Slow calls get few inputs in a round, and others in the next; quick ones get all, several times.
+    fn fitted(mut self, once: Duration) -> Self {
+        let nanos = once.as_nanos().max(1) as usize;
+        let round = ROUND.as_nanos() as usize;
+        self.taken = (self.taken * round / nanos).clamp(1, self.taken);
+        self.repeats = (round / nanos).max(1);
+        self
+    }
+
+    fn begin_round(&mut self, round: usize) {
+        let windows = self.numbers.len() / self.width / self.taken;
+        self.begin = round % windows * self.taken;
+    }
+
+    /// The time of one call on each input. Each answer gives one number to a sum, which keeps the calls from
+    /// being optimized away and shows that both sides gave the same.
+    pub fn each(&self, call: impl Fn(&[u32]) -> u32) -> Pass {
+        let inputs = &self.numbers[self.begin * self.width..][..self.taken * self.width];
+        let start = Instant::now();
+        let mut sum = 0u32;
+        for _ in 0..self.repeats {
+            for numbers in inputs.chunks_exact(self.width) {
+                sum = sum.wrapping_add(call(numbers));
+            }
+        }
+        let sum = black_box(sum);
+        Pass {
+            time: start.elapsed(),
+            sum,
+        }
+    }
+
+    fn calls(&self) -> usize {
+        self.taken * self.repeats
+    }
+}
+
+/// One line for each call: the median ratio, its spread (the middle half and the ends), and both times.
+pub fn run(seed: u64, count: usize, rounds: usize, rust: Timed, ours: Timed) {
+    println!(
+        "{:11} {:>7}  {:15}  {:15}  {:>10} {:>10}",
+        "call", "ratio", "middle half", "all", "Rust ns", "ours ns"
+    );
+    for subject in SUBJECTS {
+        let inputs = Inputs::new(subject, seed, count);
+        let Some(once) = rust(subject, &inputs) else {
+            continue;
+        };
+        let mut inputs = inputs.fitted(once.time);
+        let round = |round| {
+            inputs.begin_round(round);
+            one_round(round, subject, &inputs, rust, ours)
+        };
+        let times: Vec<(f64, f64)> = (0..rounds).filter_map(round).collect();
+        println!("{:11} {}", subject.name(), line(&times, inputs.calls()));
+    }
+}
+
+/// Which side goes first alternates, so that neither always finds the other's traces.
+fn one_round(
+    round: usize,
+    subject: Subject,
+    inputs: &Inputs,
+    rust: Timed,
+    ours: Timed,
+) -> Option<(f64, f64)> {
+    let (first, second) = if round.is_multiple_of(2) {
+        (rust, ours)
+    } else {
+        (ours, rust)
+    };
+    let (first, second) = (first(subject, inputs)?, second(subject, inputs)?);
+    assert_eq!(
+        first.sum,
+        second.sum,
+        "the answers differ: {}",
+        subject.name()
+    );
+    let (first, second) = (first.time.as_secs_f64(), second.time.as_secs_f64());
+    Some(if round.is_multiple_of(2) {
+        (first, second)
+    } else {
+        (second, first)
+    })
+}
+
+fn line(times: &[(f64, f64)], calls: usize) -> String {
+    let ratios = sorted(times.iter().map(|(rust, ours)| ours / rust));
+    let part = |quarter: usize| ratios[(ratios.len() - 1) * quarter / 4];
+    let nanos = |side: Vec<f64>| side[(side.len() - 1) / 2] * 1e9 / calls as f64;
+    let rust = nanos(sorted(times.iter().map(|(rust, _)| *rust)));
+    let ours = nanos(sorted(times.iter().map(|(_, ours)| *ours)));
+    format!(
+        "{:7.3}  {:6.3} to {:.3}  {:6.3} to {:.3}  {rust:10.1} {ours:10.1}",
+        part(2),
+        part(1),
+        part(3),
+        part(0),
+        part(4),
+    )
+}
+
+fn sorted(values: impl Iterator<Item = f64>) -> Vec<f64> {
+    let mut values: Vec<f64> = values.collect();
+    values.sort_by(f64::total_cmp);
+    values
+}

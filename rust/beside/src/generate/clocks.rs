@@ -1,0 +1,230 @@
+//! Requests for the evaluation of an image, GEM clocks, updates, and the pure parts of CPU and DDR set-up.
+use super::{Numbers, Sources, grid};
+use crate::request::WORDS;
+use crate::rng::Rng;
+
+const MAX: u32 = u32::MAX;
+
+pub const CLOCKS: Sources = Sources(image_edges, image_small, random_image);
+pub const GEM: Sources = Sources(
+    || after(&[vec![0], vec![1]], &image_edges()),
+    || after(&[vec![0], vec![1]], &gem_small()),
+    |rng| [vec![rng.below(2)], random_image(rng)].concat(),
+);
+pub const UPDATE: Sources = Sources(
+    || after(&grid([0..=6, 123..=123]), &[typical(), typical_emio()]),
+    || after(&grid([0..=6, 0..=3]), &[typical()]),
+    |rng| [vec![rng.below(7), rng.magnitude(32)], random_image(rng)].concat(),
+);
+pub const CPU_INIT: Sources = Sources(
+    || at_both_ends(&grid([0..=1, 0..=65])),
+    || grid([0..=60, 0..=1, 0..=64]),
+    |rng| vec![rng.magnitude(32), rng.below(2), rng.within(0, 64)],
+);
+pub const DDR_INIT: Sources = Sources(
+    || at_both_ends(&grid([0..=65, 62..=65])),
+    || grid([0..=12, 0..=12, 0..=12]),
+    |rng| vec![rng.magnitude(32), rng.within(0, 64), rng.within(0, 64)],
+);
+
+/// A field of an image: its word, lowest bit and width.
+type Place = (usize, u32, u32);
+
+/// Every divisor and multiplier that evaluation checks, in document 01's order of checks, then GEM's.
+const CHECKED: [Place; 27] = [
+    (0, 12, 7),
+    (2, 12, 7),
+    (1, 12, 7),
+    (8, 8, 6),
+    (9, 20, 6),
+    (9, 26, 6),
+    (18, 8, 6),
+    (19, 8, 6),
+    (20, 8, 6),
+    (21, 8, 6),
+    (22, 8, 6),
+    (26, 8, 6),
+    (23, 8, 6),
+    (23, 20, 6),
+    (25, 8, 6),
+    (28, 8, 6),
+    (28, 20, 6),
+    (32, 8, 6),
+    (32, 20, 6),
+    (36, 8, 6),
+    (36, 20, 6),
+    (40, 8, 6),
+    (40, 20, 6),
+    (16, 8, 6),
+    (16, 20, 6),
+    (17, 8, 6),
+    (17, 20, 6),
+];
+/// Every field that selects something, and bits that nothing may follow: GEM's EMIO, bypass, status.
+const SELECTING: [Place; 18] = [
+    (8, 4, 2),
+    (18, 4, 2),
+    (19, 4, 2),
+    (20, 4, 2),
+    (21, 4, 2),
+    (22, 4, 2),
+    (23, 4, 2),
+    (25, 4, 3),
+    (26, 4, 2),
+    (28, 4, 2),
+    (32, 4, 2),
+    (36, 4, 2),
+    (40, 4, 2),
+    (49, 0, 1),
+    (16, 4, 3),
+    (17, 4, 3),
+    (0, 4, 1),
+    (3, 0, 3),
+];
+
+/// A crystal and the image of a board that has been started, with divisors and sources of many kinds.
+fn typical() -> Numbers {
+    let mut numbers = vec![0; 1 + WORDS];
+    numbers[0] = 33_333_333;
+    let words = [
+        (0, 0x0002_8008),
+        (1, 0x0002_0008),
+        (2, 0x0001_E008),
+        (3, 0x0000_003F),
+        (4, 0x000F_A220),
+        (5, 0x0012_C220),
+        (6, 0x0014_52C0),
+        (8, 0x1F00_0200),
+        (9, 0x0C20_0003),
+        (16, 0x0050_0801),
+        (17, 0x0010_0441),
+        (18, 0x0000_3C21),
+        (19, 0x0000_0501),
+        (20, 0x0000_1401),
+        (21, 0x0000_1402),
+        (22, 0x0000_0A33),
+        (23, 0x0030_0E03),
+        (25, 0x0000_0F22),
+        (26, 0x0000_0501),
+        (28, 0x01B0_0300),
+        (32, 0x0020_0520),
+        (36, 0x0010_1430),
+        (40, 0x03F0_3F10),
+        (49, 0x0000_0001),
+    ];
+    for (word, value) in words {
+        numbers[1 + word] = value;
+    }
+    numbers
+}
+
+fn typical_emio() -> Numbers {
+    changed(&typical(), (25, 4, 3), 5)
+}
+
+fn changed(numbers: &[u32], (word, lowest, width): Place, value: u32) -> Numbers {
+    let mut numbers = numbers.to_vec();
+    let mask = ((1 << width) - 1) << lowest;
+    let word = &mut numbers[1 + word];
+    *word = *word & !mask | value << lowest & mask;
+    numbers
+}
+
+/// Every single field of the typical image at each of its values.
+fn image_small() -> Vec<Numbers> {
+    let base = typical();
+    let values = |&place: &Place| {
+        let base = &base;
+        (0..1 << place.2).map(move |value| changed(base, place, value))
+    };
+    CHECKED.iter().chain(&SELECTING).flat_map(values).collect()
+}
+
+fn gem_small() -> Vec<Numbers> {
+    let mut all = Vec::new();
+    for n in grid([0..=7, 0..=3, 0..=3]) {
+        let word = n[0] << 4 | n[1] << 8 | n[2] << 20;
+        let mut numbers = typical();
+        numbers[1 + 16..=1 + 17].fill(word);
+        all.push(numbers);
+    }
+    all
+}
+
+fn image_edges() -> Vec<Numbers> {
+    let base = typical();
+    let mut all = vec![base.clone(), typical_emio()];
+    all.push(changed(&typical_emio(), (25, 8, 6), 0));
+    // Two zeros: the one that is checked first is blamed.
+    for (i, &first) in CHECKED.iter().enumerate() {
+        for &second in &CHECKED[i + 1..] {
+            all.push(changed(&changed(&base, first, 0), second, 0));
+        }
+    }
+    // The largest crystal whose product fits, and one more; then with a zero somewhere as well.
+    for fdiv in [1, 2, 3, 40, 63, 64, 126, 127] {
+        for pll in 0..3 {
+            for crystal in [MAX / fdiv, (MAX / fdiv).wrapping_add(1)] {
+                let ones = (0..3).fold(base.clone(), |n, pll| changed(&n, (pll, 12, 7), 1));
+                let mut numbers = changed(&ones, (pll, 12, 7), fdiv);
+                numbers[0] = crystal;
+                all.push(changed(&numbers, (8, 8, 6), 0));
+                all.push(changed(&numbers, ((pll + 1) % 3, 12, 7), 0));
+                all.push(numbers);
+            }
+        }
+    }
+    let mut dark = base.clone();
+    dark[0] = 0;
+    // An image one word short or long is refused before anything else.
+    all.extend([dark, base[..WORDS].to_vec(), [&base[..], &[0]].concat()]);
+    all
+}
+
+fn random_image(rng: &Rng) -> Numbers {
+    let mut numbers = typical();
+    match rng.below(4) {
+        0 => numbers.iter_mut().for_each(|word| *word = rng.word()),
+        1 => {
+            for _ in 0..rng.within(1, 3) {
+                numbers[1 + rng.below(WORDS as u32) as usize] = rng.word();
+            }
+        }
+        _ => {
+            numbers.iter_mut().for_each(|word| *word = rng.word());
+            for (word, lowest, width) in CHECKED {
+                let divisor = rng.within(1, (1 << width) - 1);
+                let divisor = if rng.one_in(60) { 0 } else { divisor };
+                numbers = changed(&numbers, (word, lowest, width), divisor);
+            }
+        }
+    }
+    numbers[0] = match rng.below(8) {
+        0 => rng.magnitude(32),
+        1 => rng.near(MAX / rng.within(1, 127)),
+        _ => rng.magnitude(25),
+    };
+    numbers
+}
+
+/// Every image after every head.
+fn after(heads: &[Numbers], images: &[Numbers]) -> Vec<Numbers> {
+    let with = |head: &Numbers| {
+        let head = head.clone();
+        images.iter().map(move |image| [&head[..], image].concat())
+    };
+    heads.iter().flat_map(with).collect()
+}
+
+fn at_both_ends(tails: &[Numbers]) -> Vec<Numbers> {
+    after(
+        &[
+            vec![0],
+            vec![1],
+            vec![1_333_333_320],
+            vec![MAX - 1],
+            vec![MAX],
+        ],
+        tails,
+    )
+}

@@ -1,0 +1,168 @@
+//! A request in plain numbers, and its line in the desk program's format.
+use std::fmt::{self, Display, Formatter};
+
+/// Words of an image.
+pub const WORDS: usize = 50;
+/// The most viable pairs there can be.
+pub const ROOM: u32 = 251;
+
+/// What is asked, with the numbers that a request of it has, in order.
+#[derive(Clone, Copy, Debug, PartialEq, Eq)]
+pub enum Subject {
+    /// reference, target, largest divisor
+    TwoStage,
+    /// reference, 0 for normal or 1 for fast
+    I2c,
+    /// reference, a, b
+    I2cSpeed,
+    /// reference, frequency
+    Ttc,
+    /// multiplier
+    PllMul,
+    /// crystal, target
+    PllTarget,
+    /// reference, baud
+    Uart,
+    /// reference, baud, how many records are lent
+    UartList,
+    /// crystal, the image's words
+    Clocks,
+    /// 0 or 1, crystal, the image's words
+    Gem,
+    /// which IO clock, its new Hertz, crystal, the image's words
+    Update,
+    /// PLL, 0 for 4:2:1 or 1 for 6:2:1, divisor
+    CpuInit,
+    /// reference, 3x divisor, 2x divisor
+    DdrInit,
+    /// PLL (0 ARM, 1 DDR, 2 IO), booted bypassed, the setting's four numbers, limit, the words that the host reads
+    PllSeq,
+    /// a start each, as [`Start`] packs it
+    Starts,
+}
+
+pub const SUBJECTS: [Subject; 15] = [
+    Subject::TwoStage,
+    Subject::I2c,
+    Subject::I2cSpeed,
+    Subject::Ttc,
+    Subject::PllMul,
+    Subject::PllTarget,
+    Subject::Uart,
+    Subject::UartList,
+    Subject::Clocks,
+    Subject::Gem,
+    Subject::Update,
+    Subject::CpuInit,
+    Subject::DdrInit,
+    Subject::PllSeq,
+    Subject::Starts,
+];
+
+/// Names of the PLLs by their numbers, which are also the words of their control registers and lock bits.
+pub const PLLS: [&str; 3] = ["arm", "ddr", "io"];
+
+impl Subject {
+    pub fn name(self) -> &'static str {
+        match self {
+            Self::TwoStage => "two-stage",
+            Self::I2c => "i2c",
+            Self::I2cSpeed => "i2c-speed",
+            Self::Ttc => "ttc",
+            Self::PllMul => "pll-mul",
+            Self::PllTarget => "pll-target",
+            Self::Uart => "uart",
+            Self::UartList => "uart-list",
+            Self::Clocks => "clocks",
+            Self::Gem => "gem",
+            Self::Update => "update",
+            Self::CpuInit => "cpu-init",
+            Self::DdrInit => "ddr-init",
+            Self::PllSeq => "pll-seq",
+            Self::Starts => "starts",
+        }
+    }
+
+    /// How many numbers come before those written as register words.
+    fn plain_numbers(self) -> usize {
+        match self {
+            Self::Clocks => 1,
+            Self::Gem => 2,
+            Self::Update => 3,
+            Self::PllSeq => 7,
+            _ => usize::MAX,
+        }
+    }
+}
+
+#[derive(Clone, Debug, PartialEq, Eq)]
+pub struct Request {
+    pub subject: Subject,
+    pub numbers: Vec<u32>,
+}
+
+impl Request {
+    pub fn new(subject: Subject, numbers: Vec<u32>) -> Self {
+        Self { subject, numbers }
+    }
+
+    /// The words after the plain numbers: the image, or what the host reads.
+    pub fn words(&self) -> &[u32] {
+        &self.numbers[self.subject.plain_numbers()..]
+    }
+}
+
+impl Display for Request {
+    fn fmt(&self, f: &mut Formatter<'_>) -> fmt::Result {
+        write!(f, "{}", self.subject.name())?;
+        for (i, &number) in self.numbers.iter().enumerate() {
+            match (self.subject, i) {
+                (Subject::I2c, 1) => write!(f, " {}", ["normal", "fast"][number as usize])?,
+                (Subject::PllSeq, 0) => write!(f, " {}", PLLS[number as usize])?,
+                // The desk always lends enough records.
+                (Subject::UartList, 2) if number == ROOM => {}
+                (Subject::UartList, 2) => write!(f, " (room for {number})")?,
+                (Subject::Starts, _) => write!(f, " {}", Start::unpacked(number))?,
+                _ if i < self.subject.plain_numbers() => write!(f, " {number}")?,
+                _ => write!(f, " {number:08x}")?,
+            }
+        }
+        Ok(())
+    }
+}
+
+/// One start of a PLL in a run of starts.
+#[derive(Clone, Copy, Debug)]
+pub struct Start {
+    pub pll: u32,
+    pub unchecked: bool,
+    pub no_limit: bool,
+    pub too_wide: bool,
+}
+
+impl Start {
+    /// The PLL in bits 1:0, then a bit for each of the others.
+    pub fn unpacked(number: u32) -> Self {
+        Self {
+            pll: number % 4 % 3,
+            unchecked: number & 4 != 0,
+            no_limit: number & 8 != 0,
+            too_wide: number & 16 != 0,
+        }
+    }
+}
+
+impl Display for Start {
+    fn fmt(&self, f: &mut Formatter<'_>) -> fmt::Result {
+        write!(f, "{}", PLLS[self.pll as usize])?;
+        let marked = [
+            (self.unchecked, "+unchecked"),
+            (self.no_limit, "+no-limit"),
+            (self.too_wide, "+too-wide"),
+        ];
+        for (_, mark) in marked.iter().filter(|(given, _)| *given) {
+            write!(f, "{mark}")?;
+        }
+        Ok(())
+    }
+}

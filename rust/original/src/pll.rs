@@ -1,0 +1,107 @@
+//! PLL settings, the configuration sequence as a log of its accesses, and once-only starts.
+use crate::BootMode;
+use crate::clocks::pll::{self, PllConfig, PllConfigCtorError};
+use crate::time::Hertz;
+use arbitrary_int::{u4, u7, u10};
+use device::Access;
+
+/// FDIV, charge pump, resistor and lock count.
+pub type Setting = [u32; 4];
+
+#[derive(Debug, Clone, Copy, PartialEq, Eq)]
+pub enum Pll {
+    Arm,
+    Ddr,
+    Io,
+}
+
+/// Why there is no setting.
+#[derive(Debug, Clone, Copy, PartialEq, Eq)]
+pub enum Refused {
+    ZeroInput,
+    Multiplier(u32),
+}
+
+/// The setting of a multiplier, in the original's own type.
+#[inline(never)]
+pub fn mul_setting(multiplier: u32) -> Result<PllConfig, Refused> {
+    PllConfig::new(multiplier).map_err(|why| Refused::Multiplier(why.0))
+}
+
+/// The setting that comes nearest to a target from below, in the original's own type.
+#[inline(never)]
+pub fn target_setting(crystal: u32, target: u32) -> Result<PllConfig, Refused> {
+    PllConfig::new_from_target_clock(Hertz::from_raw(crystal), Hertz::from_raw(target)).map_err(
+        |why| match why {
+            PllConfigCtorError::InvalidInput => Refused::ZeroInput,
+            PllConfigCtorError::MulOutOfRange(why) => Refused::Multiplier(why.0),
+        },
+    )
+}
+
+/// The four numbers of a setting. The original keeps them private, so they are read off the two words that
+/// its sequence writes first when every word read is 0.
+pub fn fields(setting: PllConfig) -> Setting {
+    let (log, _) = configured(Pll::Arm, false, false, setting, &[0, 0]);
+    let written = |entry: &Access| match *entry {
+        Access::Write { value, .. } => Some(value),
+        Access::Read { .. } => None,
+    };
+    let words: Vec<u32> = log.iter().filter_map(written).collect();
+    let (control, configuration) = (words[0], words[1]);
+    let lock_count = configuration >> 12;
+    [
+        control >> 12,
+        configuration >> 8 & 15,
+        configuration >> 4 & 15,
+        lock_count,
+    ]
+}
+
+/// The accesses of the sequence when the host returns `reads` in order, and whether it came to its end.
+pub fn run(pll: Pll, bypassed: bool, setting: Setting, reads: &[u32]) -> (Vec<Access>, bool) {
+    configured(pll, false, bypassed, raw(setting), reads)
+}
+
+/// The same by the once-only start: no access at all where the PLL was started before.
+pub fn start(pll: Pll, bypassed: bool, setting: Setting, reads: &[u32]) -> (Vec<Access>, bool) {
+    configured(pll, true, bypassed, raw(setting), reads)
+}
+
+/// Forgets on this thread which PLLs were started.
+pub fn new_device() {
+    device::clear_marks();
+}
+
+fn raw([fdiv, charge_pump, resistor, lock_count]: Setting) -> PllConfig {
+    PllConfig::new_raw(
+        u7::new(fdiv as u8),
+        u4::new(charge_pump as u8),
+        u4::new(resistor as u8),
+        u10::new(lock_count as u16),
+    )
+}
+
+fn configured(
+    pll: Pll,
+    once: bool,
+    bypassed: bool,
+    setting: PllConfig,
+    reads: &[u32],
+) -> (Vec<Access>, bool) {
+    let mode = BootMode::new(bypassed);
+    let (log, end) = device::scripted(reads, || match (once, pll) {
+        (true, Pll::Arm) => pll::configure_arm_pll(mode, setting),
+        (true, Pll::Ddr) => pll::configure_ddr_pll(mode, setting),
+        (true, Pll::Io) => pll::configure_io_pll(mode, setting),
+        // SAFETY: there is no PLL behind the stand-in registers.
+        (false, pll) => unsafe {
+            match pll {
+                Pll::Arm => pll::configure_arm_pll_unchecked(mode, setting),
+                Pll::Ddr => pll::configure_ddr_pll_unchecked(mode, setting),
+                Pll::Io => pll::configure_io_pll_unchecked(mode, setting),
+            }
+        },
+    });
+    (log, end.is_some())
+}
