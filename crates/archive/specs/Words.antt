@@ -6,10 +6,12 @@ use Rattle.two_stage.specs.declared.DivisorPair.{DivisorPair}
 use Rattle.i2c.specs.declared.ClockConfig.{ClockConfig}
 use Rattle.i2c.specs.declared.Speed.{Speed}
 use Rattle.i2c.specs.declared.Speed.the-variants.{Normal100kHz, HighSpeed400KHz}
+use Rattle.float32.specs.Whole.{bitsOf}
 use Rattle.pll_settings.specs.declared.PllConfig.{PllConfig}
 use Rattle.ttc.specs.declared.PrescalerReg.{PrescalerReg}
 use Rattle.ttc.specs.declared.PrescalerReg.the-variants.{None, Value}
 use Rattle.ttc.specs.declared.Setting.{Setting}
+use Rattle.uart_candidate.specs.declared.BaudDivisors.{BaudDivisors}
 
 abbrev pub pairWords : DivisorPair → List ℕ
 pairWords p = p .div0 ∷ p .div1 ∷ []
@@ -31,3 +33,6 @@ intervalWords s = prescalerWord (s .«prescaler_reg») ∷ s .«interval_ticks»
 
 abbrev pub settingWords : PllConfig → List ℕ
 settingWords c = c .fdiv ∷ c .«charge_pump» ∷ c .«loop_resistor» ∷ c .«lock_count» ∷ []
+
+abbrev pub baudWords : BaudDivisors → List ℕ
+baudWords p = p .cd ∷ p .bdiv ∷ bitsOf (p .error) ∷ []

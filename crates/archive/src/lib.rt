@@ -6,3 +6,4 @@ mod i2c_bus;
 mod pll_rows;
 mod rows;
 mod timer;
+mod uart_pairs;

@@ -1,0 +1,45 @@
+// Between whole numbers and f32, and the absolute value: what `as`, `libm::roundf` and `abs` do in the Rust.
+ghost use mathlib.Core.Path.{_≡_};
+ghost use Rattle.float32.specs.Whole.{ofWhole, toWhole, abs, bitsOf};
+
+pub fn of_whole(n: u32) -> f32
+    ensures { λ r. ⌜ r ≡ ofWhole n ⌝ }
+{
+    std::num::nearest_u32_to_f32(n)
+}
+
+// From 0.5 on x is its 24 digits times 2 ^ (exponent - 150). Cut to whole halves, they are odd exactly where x is a half
+// or more past a whole number.
+pub fn to_whole(x: f32) -> u32
+    ensures { λ r. ⌜ r ≡ toWhole x ⌝ }
+{
+    if x >= 0.5 {
+        if x < 65535.5 {
+            let bits = f32::to_bits(x);
+            let exponent = bits >> 23;
+            let digits = bits % 0x80_0000 + 0x80_0000;
+            let halves = digits >> (149 - exponent);
+            return (halves + 1) / 2;
+        }
+        return 65536;
+    }
+    0
+}
+
+// The sign is the highest bit. A pattern is defined only of a number.
+pub fn abs(x: f32) -> f32
+    ensures { λ r. ⌜ r ≡ abs x ⌝ }
+{
+    if x != x {
+        x
+    } else {
+        f32::from_bits(f32::to_bits(x) % 0x8000_0000)
+    }
+}
+
+// The 32 bits of a float. What is no number has many patterns: the one with sign 0 and the quiet bit alone stands for all.
+pub fn bits(x: f32) -> u32
+    ensures { λ r. ⌜ r ≡ bitsOf x ⌝ }
+{
+    if x != x { 0x7fc0_0000 } else { f32::to_bits(x) }
+}
