@@ -1,6 +1,9 @@
 // Between whole numbers and f32, and the absolute value: what `as`, `libm::roundf` and `abs` do in the Rust.
+mod pattern;
+
+pub use pattern::bits;
 ghost use mathlib.Core.Path.{_≡_};
-ghost use Rattle.float32.specs.Whole.{ofWhole, toWhole, abs, bitsOf};
+ghost use Rattle.float32.specs.Whole.{ofWhole, toWhole, abs};
 
 pub fn of_whole(n: u32) -> f32
     ensures { λ r. ⌜ r ≡ ofWhole n ⌝ }
@@ -35,11 +38,4 @@ pub fn abs(x: f32) -> f32
     } else {
         f32::from_bits(f32::to_bits(x) % 0x8000_0000)
     }
-}
-
-// The 32 bits of a float. What is no number has many patterns: the one with sign 0 and the quiet bit alone stands for all.
-pub fn bits(x: f32) -> u32
-    ensures { λ r. ⌜ r ≡ bitsOf x ⌝ }
-{
-    if x != x { 0x7fc0_0000 } else { f32::to_bits(x) }
 }

@@ -1,12 +1,12 @@
--- `float32::bits` meets its contract.
+-- `float32::pattern::bits` meets its contract.
 use borrow.Author.Needs.{needs}
 use mathlib.Core.Path.{refl}
 use lib.Ieee.{toBits}
 use lib.Ieee.Compare.{differs-from-itself}
 use Rattle.float32.proofs.Halves.{holds}
 use Rattle.float32.proofs.Sign.{number}
-use Rattle.float32.proofs.bits.Statement.{statement}
-use Rattle.float32.proofs.bits.Tie as tie
+use Rattle.float32.proofs.pattern.bits.Statement.{statement}
+use Rattle.float32.proofs.pattern.bits.Tie as tie
 
 float-to-bits-result : tie.Need-float-to-bits-result
 float-to-bits-result c = number _ (c .if1 .left)
