@@ -1,6 +1,6 @@
 // The two-stage divisors of a reference.
-use crate::rows::no_room;
-use crate::rows::put;
+use handing::no_room;
+use handing::put;
 use two_stage::DivisorPair;
 use two_stage::TwoStage;
 use two_stage::find_two_stage_divisors;
@@ -8,7 +8,7 @@ use two_stage::two_stage_frequency;
 ghost use mathlib.Core.Path.{_≡_};
 ghost use Rattle.two_stage.specs.Answer.{Right};
 ghost use Rattle.two_stage.specs.Best.{frequency};
-ghost use Rattle.archive.specs.Handed.{Handed};
+ghost use Rattle.handing.specs.Handed.{Handed};
 ghost use Rattle.archive.specs.Words.{pairWords};
 
 // Two words: the first and the second divisor.

@@ -1,6 +1,6 @@
 // The I2C divisors and the speed that they make.
-use crate::rows::no_room;
-use crate::rows::put;
+use handing::no_room;
+use handing::put;
 use i2c::ClockConfig;
 use i2c::Divisors;
 use i2c::Speed;
@@ -9,7 +9,7 @@ use i2c::calculate_i2c_speed;
 ghost use mathlib.Core.Path.{_≡_};
 ghost use Prim.Native.Nat.{_+_};
 ghost use Rattle.i2c.specs.Divisors.{Right, clock};
-ghost use Rattle.archive.specs.Handed.{Handed};
+ghost use Rattle.handing.specs.Handed.{Handed};
 ghost use Rattle.archive.specs.Words.{configWords, speedOf};
 
 // Two words: the register values a - 1 and b - 1. Speed 0 is normal, any other number fast.

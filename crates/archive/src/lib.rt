@@ -4,6 +4,5 @@
 mod divisors;
 mod i2c_bus;
 mod pll_rows;
-mod rows;
 mod timer;
 mod uart_pairs;

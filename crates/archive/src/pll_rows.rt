@@ -1,12 +1,12 @@
 // The settings of a PLL, by multiplier and by target.
-use crate::rows::carrying;
-use crate::rows::no_room;
-use crate::rows::put;
+use handing::carrying;
+use handing::no_room;
+use handing::put;
 use pll_settings::PllConfig;
 use pll_settings::PllSetting;
 ghost use mathlib.Core.Path.{_≡_};
 ghost use Rattle.pll_settings.specs.Settings.{Right, RightTarget, told};
-ghost use Rattle.archive.specs.Handed.{Handed};
+ghost use Rattle.handing.specs.Handed.{Handed};
 ghost use Rattle.archive.specs.Words.{settingWords};
 
 // Four words: FDIV, charge pump, resistor, lock count.

@@ -1,12 +1,12 @@
 // The TTC's prescaler and interval ticks.
-use crate::rows::no_room;
-use crate::rows::put;
+use handing::no_room;
+use handing::put;
 use ttc::Interval;
 use ttc::PrescalerReg;
 use ttc::calc_prescaler_reg_and_interval_ticks;
 ghost use mathlib.Core.Path.{_≡_};
 ghost use Rattle.ttc.specs.Interval.{Right};
-ghost use Rattle.archive.specs.Handed.{Handed};
+ghost use Rattle.handing.specs.Handed.{Handed};
 ghost use Rattle.archive.specs.Words.{intervalWords, prescalerWord};
 
 fn prescaler_word(p: PrescalerReg) -> u32

@@ -1,10 +1,10 @@
 // The UART's divisors: the best pair, and the list of those that will do.
-use crate::rows::no_room;
-use crate::rows::put;
+use handing::no_room;
+use handing::put;
 use uart_best::BestPair;
 use uart_best::best_baud_divisors;
 ghost use Rattle.uart_best.specs.Best.{Right};
-ghost use Rattle.archive.specs.Handed.{Handed};
+ghost use Rattle.handing.specs.Handed.{Handed};
 ghost use Rattle.archive.specs.Words.{baudWords};
 
 // Three words: the clock divisor, the baud divider, the error's bits.

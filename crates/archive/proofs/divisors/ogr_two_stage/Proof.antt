@@ -1,7 +1,7 @@
 -- `archive::divisors::ogr_two_stage` hands back what the search tells. Assumes nothing.
 use native.Mathlib.Omega.{arith}
 use mathlib.Core.Path.{ap}
-use Rattle.archive.proofs.Handing.{no-row, refuses, answers}
+use Rattle.handing.proofs.Handing.{no-row, refuses, answers}
 use Rattle.two_stage.specs.Answer.{told}
 use borrow.Author.Needs.{needs}
 use Rattle.archive.proofs.divisors.ogr_two_stage.Statement.{statement}

@@ -1,7 +1,7 @@
 -- `archive::i2c_bus::ogr_i2c_divisors` hands back what the search tells. Assumes nothing.
 use native.Mathlib.Omega.{arith}
 use mathlib.Core.Path.{ap}
-use Rattle.archive.proofs.Handing.{no-row, refuses, answers}
+use Rattle.handing.proofs.Handing.{no-row, refuses, answers}
 use Rattle.i2c.specs.Divisors.{told}
 use borrow.Author.Needs.{needs}
 use Rattle.archive.proofs.i2c_bus.ogr_i2c_divisors.Statement.{statement}

@@ -1,7 +1,7 @@
 -- `archive::pll_rows::hand_setting` hands back the setting that it is given. Assumes nothing.
 use native.Mathlib.Omega.{arith}
 use mathlib.Core.Path.{ap, refl}
-use Rattle.archive.proofs.Handing.{no-row, refuses, answers}
+use Rattle.handing.proofs.Handing.{no-row, refuses, answers}
 use Rattle.pll_settings.specs.Settings.{told}
 use borrow.Author.Needs.{needs}
 use Rattle.archive.proofs.pll_rows.hand_setting.Statement.{statement}

@@ -1,5 +1,5 @@
 -- `archive::pll_rows::ogr_pll_mul` hands back what the call tells. Assumes nothing.
-use Rattle.archive.proofs.Handing.{of-answer}
+use Rattle.handing.proofs.Handing.{of-answer}
 use borrow.Author.Needs.{needs}
 use Rattle.archive.proofs.pll_rows.ogr_pll_mul.Statement.{statement}
 use Rattle.archive.proofs.pll_rows.ogr_pll_mul.Tie as tie

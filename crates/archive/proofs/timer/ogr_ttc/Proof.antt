@@ -1,7 +1,7 @@
 use native.Mathlib.Omega.{arith}
 use mathlib.Core.Path.{ap}
 use Rattle.ttc.specs.Interval.{told}
-use Rattle.archive.proofs.Handing.{no-row, refuses, answers}
+use Rattle.handing.proofs.Handing.{no-row, refuses, answers}
 use borrow.Author.Needs.{needs}
 use Rattle.archive.proofs.timer.ogr_ttc.Statement.{statement}
 use Rattle.archive.proofs.timer.ogr_ttc.Tie as tie

@@ -1,7 +1,7 @@
 -- `archive::uart_pairs::ogr_uart_best` hands back what the search tells. Assumes nothing.
 use native.Mathlib.Omega.{arith}
 use mathlib.Core.Path.{ap}
-use Rattle.archive.proofs.Handing.{no-row, refuses, answers}
+use Rattle.handing.proofs.Handing.{no-row, refuses, answers}
 use Rattle.uart_best.specs.Best.{told}
 use borrow.Author.Needs.{needs}
 use Rattle.archive.proofs.uart_pairs.ogr_uart_best.Statement.{statement}

@@ -1,2 +1,0 @@
-mod Handing
-mod Over

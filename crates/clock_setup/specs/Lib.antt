@@ -1,0 +1,2 @@
+pub mod Cpu
+pub mod Ddr

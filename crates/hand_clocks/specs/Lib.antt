@@ -1,0 +1,2 @@
+pub mod GemClock
+pub mod Words

@@ -1,0 +1,51 @@
+// The pure parts of the CPU and DDR set-up.
+use clock_setup::{new_with_2x_3x_init, new_with_cpu_clock_init, CpuSetup, DdrSetup};
+use clocks::arm::CpuClockRatio;
+use handing::{carrying, no_room, put};
+ghost use mathlib.Core.Path.{_≡_};
+ghost use Rattle.handing.specs.Handed.{Handed};
+ghost use Rattle.clock_setup.specs.Cpu.{CpuRight};
+ghost use Rattle.clock_setup.specs.Ddr.{DdrRight};
+ghost use Rattle.hand_clocks.specs.Words.{cpuWords, ddrWords, ratioOf};
+
+fn ratio_of(six: bool) -> CpuClockRatio
+    ensures { λ r. ⌜ r ≡ ratioOf six ⌝ }
+{
+    if six { CpuClockRatio::SixToTwoToOne } else { CpuClockRatio::FourToTwoToOne }
+}
+
+// Four words: 1x, 2x, 3x2x, 6x4x.
+pub fn hand_cpu_init(pll: u32, six: bool, divisor: u32, out: &mut [u32]) -> u64
+    ensures { λ r. ⌜ Handed cpuWords 4 (CpuRight pll (ratioOf six) divisor) (now (out .entry)) r (now (out .exit)) ⌝ }
+{
+    if out.len() < 4 {
+        return no_room(4);
+    }
+    match new_with_cpu_clock_init(pll, ratio_of(six), divisor) {
+        CpuSetup::Clocks(s) => {
+            let words = [s.cpu_1x_clk, s.cpu_2x_clk, s.cpu_3x2x_clk, s.cpu_6x4x_clk];
+            put(out, &words);
+            0
+        }
+        CpuSetup::DivisorZero => carrying(2, 2),
+        CpuSetup::BadField => 20,
+    }
+}
+
+// Two words: 3x, 2x.
+pub fn hand_ddr_init(reference: u32, div_3x: u32, div_2x: u32, out: &mut [u32]) -> u64
+    ensures { λ r. ⌜ Handed ddrWords 2 (DdrRight reference «div_3x» «div_2x») (now (out .entry)) r (now (out .exit)) ⌝ }
+{
+    if out.len() < 2 {
+        return no_room(2);
+    }
+    match new_with_2x_3x_init(reference, div_3x, div_2x) {
+        DdrSetup::Clocks(s) => {
+            let words = [s.ddr_3x_clk, s.ddr_2x_clk];
+            put(out, &words);
+            0
+        }
+        DdrSetup::DivisorZero => carrying(2, 1),
+        DdrSetup::BadField => 20,
+    }
+}

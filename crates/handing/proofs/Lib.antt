@@ -1,0 +1,2 @@
+pub mod Handing
+mod Over

@@ -1,0 +1,32 @@
+// A lent row of words: refusing one that is too short, and putting an answer's words at its front.
+ghost use mathlib.Core.Path.{_≡_};
+ghost use mathlib.Core.List.{[], _∷_, _++_};
+ghost use Prim.Native.Nat.{_≤_, _<_, _^_};
+ghost use lib.ListN.{length, drop};
+ghost use Rattle.refusals.specs.Number.{NO-ROOM};
+ghost use Rattle.handing.specs.Handed.{code};
+
+// A refusal that carries a number.
+pub fn carrying(number: u32, carried: u32) -> u64
+    ensures { λ r. ⌜ r ≡ code number (carried ∷ []) ⌝ }
+{
+    number as u64 + carried as u64 * 0x1_0000_0000
+}
+
+// Refusal 9, carrying how many words are needed.
+pub fn no_room(words: u32) -> u64
+    ensures { λ r. ⌜ r ≡ code NO-ROOM (words ∷ []) ⌝ }
+{
+    carrying(9, words)
+}
+
+pub fn put(out: &mut [u32], words: &[u32])
+    requires { ⌜ length (now words) ≤ length (now out) ⌝ }
+    ensures { λ _. ⌜ now (out .exit) ≡ now (words .entry) ++ drop (length (now (words .entry))) (now (out .entry)) ⌝ }
+{
+    let mut i = 0;
+    while i < words.len() {
+        out[i] = words[i];
+        i += 1;
+    }
+}
