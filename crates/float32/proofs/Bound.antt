@@ -1,5 +1,5 @@
 -- A rounded fraction that is at most b, where b is itself an f32, is at most b: so it is finite.
-use mathlib.Core.Path.{_≡_, refl, sym, ap, _∙_}
+use mathlib.Core.Path.{refl, sym, ap, _∙_}
 use mathlib.Core.Bool.{Bool, true, false, cond, true≢false}
 use Prim.Native.Nat.{ℕ, zero, suc, _+_, _*_, _^_, _<_, _≤_}
 use native.Mathlib.Nat.{zero-lt-suc, mul-one, mul-comm, mul-assoc, mul-pos, mul-le-mul, mul-le-mul-right, mul-lt-mul-of-pos-right, mul-right-comm, le-trans, le-of-eq, lt-of-lt-of-le, lt-of-le-of-lt, le-of-mul-le-mul-right}

@@ -1,12 +1,11 @@
 -- How `to_whole` reads an f32 from 0.5 to below 65,535.5: its bit pattern gives its whole number of halves, and so its rounding.
-use mathlib.Core.Path.{_≡_, refl, _∙_, ap, sym, subst}
-use mathlib.Core.Bool.{Bool, true, false, not, _||_, true≢false}
-use mathlib.Core.Logic.{_⊎_, inl, inr}
-use Prim.Native.Nat.{ℕ, zero, suc, _+_, _-_, _*_, _/_, _%_, _^_, _≤_, _<_, min, zero-le}
-use native.Mathlib.Nat.{zero-add, mul-comm, mul-assoc, mul-left-comm, mul-right-comm, mul-le-mul-left, mul-le-mul-right, mul-lt-mul-of-pos-right, mul-pos, le-of-eq, le-trans, lt-of-le-of-lt, lt-of-lt-of-le, lt-of-not-le, not-le-of-lt, le-div-iff-mul-le, div-lt-iff-lt-mul, div-div-eq-div-mul, mul-div-mul-right, add-div-right, div-eq-of-lt, zero-lt-suc}
+use mathlib.Core.Path.{_≡_, refl, _∙_, ap, sym}
+use mathlib.Core.Bool.{true, false, not, true≢false}
+use Prim.Native.Nat.{ℕ, _+_, _-_, _*_, _/_, _%_, _^_, _≤_, _<_, min}
+use native.Mathlib.Nat.{mul-comm, mul-assoc, mul-right-comm, mul-le-mul-right, mul-lt-mul-of-pos-right, mul-pos, le-of-eq, le-trans, lt-of-le-of-lt, lt-of-lt-of-le, lt-of-not-le, not-le-of-lt, le-div-iff-mul-le, div-lt-iff-lt-mul, div-div-eq-div-mul, mul-div-mul-right, add-div-right, div-eq-of-lt, zero-lt-suc}
 use native.Mathlib.Omega.{arith}
-use lib.IntN.{ℤ, negsuc}
-use lib.Dec.{T, ltb, ltb→lt, leb→le, nltb→le, nleb→lt, lit≤, lit<, not-T}
+use lib.IntN.{negsuc}
+use lib.Dec.{T, ltb→lt, nltb→le, lit≤, lit<}
 use lib.Pow.{pow-pos, pow-mono, pow-add, shr-shr}
 use lib.Ieee.{Float, nan, inf, fin, binary32, up, down, size, toBits, lt, le, isNan}
 use lib.Ieee.Digits.{size-lt, size-le, size-reaches}
@@ -15,14 +14,9 @@ use lib.Ieee.Order.{le-of-values}
 use lib.Ieee.Bits.{is-true}
 use lib.Ieee.Positive.{above-of-le, le→cross}
 use Rattle.float32.specs.Whole.{halvesAway, toWhole}
+use Rattle.float32.proofs.Tests.{holds, fails}
 
--- ---- the tests
-pub holds : {b : Bool} → b ≡ true → T b
-holds e = subst T (sym e) tt
-
-pub fails : {b : Bool} → b ≡ false → T (not b)
-fails e = subst (λ (x : Bool). T (not x)) (sym e) tt
-
+-- ---- the two limits
 abbrev pub half : Float
 half = fin false 1 (negsuc 0)
 

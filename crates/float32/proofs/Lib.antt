@@ -1,7 +1,9 @@
+pub mod Tests
 pub mod Halves
 pub mod Sign
 pub mod Parts
 pub mod Order
 pub mod Bound
 pub mod Exact
+pub mod Near
 pub mod Zero

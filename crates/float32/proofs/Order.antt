@@ -1,21 +1,17 @@
 -- The order of floats that are finite and not negative is that of the fractions which they are.
-use mathlib.Core.Path.{_≡_, refl, sym, subst}
-use mathlib.Core.Bool.{Bool, true, false, not, _&&_, _||_}
+use mathlib.Core.Path.{_≡_, refl, sym}
+use mathlib.Core.Bool.{true, false}
 use mathlib.Core.Logic.{_⊎_, inl, inr}
-use Prim.Native.Nat.{ℕ, _*_, _<_, _≤_}
-use native.Mathlib.Nat.{le-refl, le-of-lt, le-of-eq, le-antisymm, lt-irrefl, lt-of-lt-of-le, lt-of-le-of-lt, mul-comm}
-use lib.Dec.{T, ltb, eqb, eqb→eq, ltb→lt, lt→ltb, nltb→le}
-use lib.Ieee.{Float, nan, inf, fin, up, down, lt, eq, le}
+use Prim.Native.Nat.{_*_, _<_, _≤_}
+use native.Mathlib.Nat.{le-refl, le-of-lt, le-of-eq, le-antisymm, lt-irrefl, lt-of-lt-of-le}
+use lib.Dec.{T, eqb, eqb→eq, ltb→lt, nltb→le}
+use lib.Ieee.{Float, fin, up, down, lt, eq, le}
 use lib.Ieee.Exact.{HasValue}
 use lib.Ieee.Fits.{and-l, and-i, eq→eqb}
 use lib.Ieee.Order.{le-of-values}
 use lib.Ieee.Positive.{num, den, den-pos, through}
-use Rattle.float32.proofs.Halves.{fails}
+use Rattle.float32.proofs.Tests.{fails, or-split}
 use Rattle.float32.proofs.Parts.{plain}
-
-pub or-split : (a b : Bool) → T (a || b) → T a ⊎ T b
-or-split true b t = inl tt
-or-split false b t = inr t
 
 pub value : (x : Float) → T (plain x) → HasValue x false (num x) (den x)
 value (fin false m e) p = (refl, refl)

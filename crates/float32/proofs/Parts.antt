@@ -1,11 +1,10 @@
 -- Operations on floats that are finite and not negative, each as one rounding of the exact fraction. `num x / den x` is x.
-use mathlib.Core.Path.{_≡_, refl, sym, _∙_, ap}
+use mathlib.Core.Path.{_≡_, refl, _∙_, ap}
 use mathlib.Core.Bool.{Bool, true, false, not, _&&_, cond}
 use Prim.Native.Nat.{ℕ, zero, suc, _+_, _-_, _*_, _^_, _<_, _≤_}
 use native.Mathlib.Omega.{arith}
-use lib.IntN.{ℤ}
 use lib.Dec.{T, ltb, eqb, ltb→lt, nltb→le, eqb→eq, not-T}
-use lib.Ieee.{Float, nan, inf, fin, Format, prec, emax, low, up, down, size, odd, units, round, sum, sub, mul, div}
+use lib.Ieee.{Float, nan, inf, fin, Format, prec, emax, low, up, down, odd, units, round, sum, sub, mul, div}
 use lib.Ieee.Bits.{cond-no}
 use lib.Ieee.Fits.{round-is}
 use lib.Ieee.Positive.{num, den, positive}

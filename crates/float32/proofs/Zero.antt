@@ -6,7 +6,7 @@ use Prim.Native.Nat.{ℕ, _*_, _<_}
 use native.Mathlib.Nat.{zero-mul, mul-zero, mul-pos, zero-lt-suc}
 use lib.IntN.{pos}
 use lib.Dec.{T, eqb}
-use lib.Ieee.{Float, nan, inf, fin, Format, binary32, round, mul, div}
+use lib.Ieee.{Float, nan, inf, fin, binary32, round, mul, div}
 use lib.Ieee.Positive.{num, den, den-pos}
 use lib.Ieee.Scale.{round-same}
 use Rattle.float32.specs.Whole.{toWhole}

@@ -14,7 +14,8 @@ use Rattle.refusals.specs.Told.{answered, refused}
 use Rattle.refusals.specs.Number.{NO-PAIR}
 use Rattle.float32.specs.Whole.{ofWhole, toWhole, abs}
 use Rattle.float32.proofs.Parts.{plain}
-use Rattle.float32.proofs.Order.{at-most, itself, or-split}
+use Rattle.float32.proofs.Tests.{or-split}
+use Rattle.float32.proofs.Order.{at-most, itself}
 use Rattle.float32.proofs.Zero as Zero
 use Rattle.uart_candidate.specs.Range.{LAST}
 use Rattle.uart_candidate.specs.Candidate.{clockDivisor, Candidate}

@@ -2,8 +2,8 @@
 use mathlib.Core.Path.{_≡_, refl, sym, _∙_, ap, subst}
 use mathlib.Core.Bool.{Bool, true, false, cond, true≢false}
 use mathlib.Core.Logic.{_⊎_, _≢_, ⊎-elim}
-use Prim.Native.Nat.{ℕ, suc, _+_, _^_, _<_, _≤_}
-use native.Mathlib.Nat.{eq-or-lt-of-le, le-of-suc-le-suc, le-antisymm, le-of-eq, le-of-lt}
+use Prim.Native.Nat.{ℕ, _+_, _^_, _<_, _≤_}
+use native.Mathlib.Nat.{eq-or-lt-of-le, le-antisymm, le-of-eq, le-of-lt}
 use native.Mathlib.Omega.{arith}
 use lib.Dec.{T}
 use lib.Ieee.{Float, binary32, ofBits, lt, le, eq}
@@ -12,7 +12,7 @@ use Rattle.refusals.specs.Told.{Told, answered, refused}
 use Rattle.refusals.specs.Number.{NO-PAIR}
 use mathlib.Core.List.{[]}
 use Rattle.float32.specs.Whole.{ofWhole}
-use Rattle.float32.proofs.Halves.{holds}
+use Rattle.float32.proofs.Tests.{holds}
 use Rattle.float32.proofs.Parts.{plain}
 use Rattle.float32.proofs.Order.{not-less, itself, both, onward, strict}
 use Rattle.float32.proofs.Bound.{UpTo, LIMIT, below-max}
@@ -22,7 +22,8 @@ use Rattle.uart_candidate.specs.declared.BaudDivisors.{BaudDivisors}
 use Rattle.uart_candidate.specs.declared.Tried.{Tried}
 use Rattle.uart_candidate.proofs.Pairs.{one-each, alike}
 use Rattle.uart_candidate.proofs.Laws.{bounded}
-use Rattle.uart_best.specs.Best.{Best, Right, best, no-pair, betterOf}
+use Rattle.uart_best.specs.Best.{Right, best, no-pair}
+use Rattle.uart_best.specs.Turn.{betterOf}
 
 -- the best among the candidates whose bdiv is below k
 pub record BestBelow (reference target : Float) (k : ℕ) (p : BaudDivisors) : Type 0 where

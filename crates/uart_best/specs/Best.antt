@@ -1,17 +1,13 @@
 -- Document 01's best pair: the least error, the first bdiv on a tie; or no pair.
-use mathlib.Core.Path.{_≡_}
-use mathlib.Core.Bool.{cond}
 use mathlib.Core.List.{[]}
 use Prim.Native.Nat.{ℕ, _≤_}
-use lib.Ieee.{Float, lt, le, eq}
+use lib.Ieee.{Float, le, eq}
 use lib.Dec.{T}
 use Rattle.float32.specs.Whole.{ofWhole}
 use Rattle.refusals.specs.Told.{Told, answered, refused}
 use Rattle.refusals.specs.Number.{NO-PAIR}
 use Rattle.uart_candidate.specs.Candidate.{Candidate}
 use Rattle.uart_candidate.specs.declared.BaudDivisors.{BaudDivisors}
-use Rattle.uart_candidate.specs.declared.Tried.{Tried}
-use Rattle.uart_candidate.specs.declared.Tried.the-variants.{Pair, Skipped}
 use Rattle.uart_best.specs.declared.BestPair.{BestPair}
 use Rattle.uart_best.specs.declared.BestPair.the-variants.{Found, NoPair}
 
@@ -27,8 +23,3 @@ pub record Best (reference target : Float) (p : BaudDivisors) : Type 0 where
 pub data Right (reference target : ℕ) : Told BaudDivisors → Type 0 where
   best : (p : BaudDivisors) → Best (ofWhole reference) (ofWhole target) p → Right reference target (answered p)
   no-pair : ((p : BaudDivisors) → Candidate (ofWhole reference) (ofWhole target) p → ⊥) → Right reference target (refused NO-PAIR [])
-
--- one turn of the search: what was tried displaces the best so far where its error is less
-abbrev pub betterOf : BaudDivisors → Tried → BaudDivisors
-betterOf p (Pair q) = cond (lt (q .error) (p .error)) q p
-betterOf p Skipped = p

@@ -2,13 +2,15 @@
 use uart_candidate::BaudDivisors;
 use uart_candidate::Tried;
 ghost use mathlib.Core.Path.{_≡_};
-ghost use Rattle.uart_best.specs.Best.{Right, told, betterOf};
+ghost use Rattle.uart_best.specs.Best.{Right, told};
+ghost use Rattle.uart_best.specs.Turn.{betterOf};
 
 pub enum BestPair {
     Found(BaudDivisors),
     NoPair,
 }
 
+// Only a lesser error displaces: on a tie the first bdiv stays.
 fn better(best: BaudDivisors, tried: Tried) -> BaudDivisors
     ensures { λ r. ⌜ r ≡ betterOf best tried ⌝ }
 {
@@ -18,7 +20,7 @@ fn better(best: BaudDivisors, tried: Tried) -> BaudDivisors
     }
 }
 
-// No candidate has a clock divisor of 0, and none an error as large as the first one here: so a 0 at the end says that
+// The pair with the least error. No candidate has a clock divisor of 0, and none an error as large as the first one here: so a 0 at the end says that
 // there was none.
 pub fn best_baud_divisors(reference: u32, target: u32) -> BestPair
     ensures { λ r. ⌜ Right reference target (told r) ⌝ }

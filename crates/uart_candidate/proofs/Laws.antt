@@ -1,19 +1,18 @@
 -- What holds of every candidate: its target is not 0, its product is exact, and its error is a number, at most 2 ^ 32.
-use mathlib.Core.Path.{_≡_, sym, _∙_, ap, subst}
-use mathlib.Core.Logic.{_⊎_, inl, inr, ⊎-elim}
-use mathlib.Core.Bool.{false}
-use Prim.Native.Nat.{ℕ, _+_, _*_, _^_, _<_, _≤_}
+use mathlib.Core.Path.{_≡_, _∙_, ap, subst}
+use mathlib.Core.Logic.{⊎-elim}
+use Prim.Native.Nat.{ℕ, _+_, _*_, _<_, _≤_}
 use native.Mathlib.Nat.{eq-zero-or-pos, le-trans, mul-le-mul, mul-pos}
 use native.Mathlib.Omega.{arith}
 use lib.Dec.{T, lit≤}
 use lib.Ieee.{Float, binary32, mul, div, round, ofInt}
 use Rattle.float32.specs.Whole.{ofWhole, toWhole}
 use Rattle.float32.proofs.Parts.{plain}
-use Rattle.float32.proofs.Bound.{UpTo, LIMIT, FromOne, whole, not-zero, quotient-up-to, distance-up-to}
+use Rattle.float32.proofs.Bound.{UpTo, LIMIT, whole, not-zero, quotient-up-to, distance-up-to}
 use Rattle.float32.proofs.Exact.{product-exact}
 use Rattle.float32.proofs.Zero.{zero, times-zero, over-zero}
 use Rattle.uart_candidate.specs.Range.{LAST, LARGEST}
-use Rattle.uart_candidate.specs.Candidate.{clockDivisor, actualBaud, errorFraction, Candidate}
+use Rattle.uart_candidate.specs.Candidate.{actualBaud, Candidate}
 use Rattle.uart_candidate.specs.declared.BaudDivisors.{BaudDivisors}
 
 module _ {reference target : Float} {p : BaudDivisors} (h : Candidate reference target p) where

@@ -44,6 +44,20 @@ one-each {reference} {target} {p} {q} h k e =
 pub too-far : {reference target : Float} {p q : BaudDivisors} → Viable reference target p → Candidate reference target q → p .bdiv ≡ q .bdiv → lt (q .error) MAX-BAUDERROR-RATE ≡ false → ⊥
 too-far {p} {q} h k e f = true≢false (sym (is-true (lt (p .error) MAX-BAUDERROR-RATE) (h .small)) ∙ ap (λ (s : BaudDivisors). lt (s .error) MAX-BAUDERROR-RATE) (one-each (h .candidate) k e) ∙ f)
 
+-- ---- one outcome for each baud divider
+module _ (Rule : BaudDivisors → Type 0) (once : (p q : BaudDivisors) → Rule p → Rule q → p .bdiv ≡ q .bdiv → p ≡ q) where
+  one-outcome : {bdiv : ℕ} {s t : Tried} → Outcome Rule bdiv s → Outcome Rule bdiv t → s ≡ t
+  one-outcome (pair {p} r e) (pair {p = q} l f) = ap Pair (once p q r l (e ∙ sym f))
+  one-outcome (pair {p} r e) (skipped n) = absurd (n p r e)
+  one-outcome (skipped n) (pair {p} r e) = absurd (n p r e)
+  one-outcome (skipped n) (skipped m) = refl
+
+pub candidate-unique : (reference target : Float) {bdiv : ℕ} {s t : Tried} → Outcome (Candidate reference target) bdiv s → Outcome (Candidate reference target) bdiv t → s ≡ t
+candidate-unique reference target = one-outcome (Candidate reference target) (λ p q h k e. one-each h k e)
+
+pub viable-unique : (reference target : Float) {bdiv : ℕ} {s t : Tried} → Outcome (Viable reference target) bdiv s → Outcome (Viable reference target) bdiv t → s ≡ t
+viable-unique reference target = one-outcome (Viable reference target) (λ p q h k e. one-each (h .candidate) (k .candidate) e)
+
 -- ---- of every baud divider it can be said whether it has a viable pair
 module _ (reference target : Float) (bdiv : ℕ) where
   abbrev the : BaudDivisors

@@ -19,30 +19,34 @@ pub struct BaudDivisors {
     pub error: f32,
 }
 
+// What one baud divider gives.
 pub enum Tried {
     Pair(BaudDivisors),
     Skipped,
 }
 
+// reference / ((bdiv + 1) · target), to a whole number.
 fn clock_divisor(reference: f32, target: f32, bdiv: u8) -> u32
     ensures { λ r. ⌜ r ≡ clockDivisor reference target bdiv ⌝ }
 {
     float32::to_whole(reference / (((bdiv as u16 + 1) as f32) * target))
 }
 
+// reference / (cd · (bdiv + 1))
 fn actual_baud(reference: f32, cd: u16, bdiv: u8) -> f32
     ensures { λ r. ⌜ r ≡ actualBaud reference cd bdiv ⌝ }
 {
     reference / ((cd as f32) * ((bdiv as u16 + 1) as f32))
 }
 
+// |actual baud − target| / target
 fn error_fraction(reference: f32, target: f32, cd: u16, bdiv: u8) -> f32
     ensures { λ r. ⌜ r ≡ errorFraction reference target cd bdiv ⌝ }
 {
     float32::abs(actual_baud(reference, cd, bdiv) - target) / target
 }
 
-// For a search, which has reference and target as f32 before its first turn.
+// The candidate with this bdiv, for a search that has reference and target as f32 before its first turn.
 pub fn candidate_at(reference: f32, target: f32, bdiv: u32) -> Tried
     ensures { λ r. ⌜ Outcome (Candidate reference target) bdiv r ⌝ }
 {
@@ -68,6 +72,7 @@ pub fn candidate_at(reference: f32, target: f32, bdiv: u32) -> Tried
     })
 }
 
+// The same of the viable pairs.
 pub fn viable_at(reference: f32, target: f32, bdiv: u32) -> Tried
     ensures { λ r. ⌜ Outcome (Viable reference target) bdiv r ⌝ }
 {
@@ -84,6 +89,7 @@ pub fn viable_at(reference: f32, target: f32, bdiv: u32) -> Tried
     }
 }
 
+// The candidate with this bdiv.
 pub fn candidate(reference: u32, target: u32, bdiv: u32) -> Tried
     ensures { λ r. ⌜ Outcome (Candidate (ofWhole reference) (ofWhole target)) bdiv r ⌝ }
 {
@@ -94,6 +100,7 @@ pub fn candidate(reference: u32, target: u32, bdiv: u32) -> Tried
     )
 }
 
+// The viable pair with this bdiv.
 pub fn viable(reference: u32, target: u32, bdiv: u32) -> Tried
     ensures { λ r. ⌜ Outcome (Viable (ofWhole reference) (ofWhole target)) bdiv r ⌝ }
 {

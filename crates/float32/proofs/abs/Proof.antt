@@ -1,8 +1,5 @@
 -- `float32::abs` meets its contract.
-use mathlib.Core.Bool.{not}
-use lib.Dec.{T}
-use lib.Ieee.{isNan}
-use Rattle.float32.proofs.Halves.{holds}
+use Rattle.float32.proofs.Tests.{holds}
 use Rattle.float32.proofs.Sign.{number, none, abs-of, abs-pattern}
 use Rattle.float32.proofs.abs.Statement.{statement}
 use Rattle.float32.proofs.abs.Tie as tie

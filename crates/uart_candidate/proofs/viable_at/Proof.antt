@@ -1,7 +1,7 @@
 -- `uart_candidate::viable_at` meets its contract: of the candidate that a bdiv has, the error decides.
 use borrow.Author.Needs.{needs}
 use mathlib.Core.Path.{sym, _∙_}
-use Rattle.float32.proofs.Halves.{holds}
+use Rattle.float32.proofs.Tests.{holds}
 use Rattle.uart_candidate.proofs.Pairs.{got, got-none, too-far}
 use Rattle.uart_candidate.specs.Candidate.{pair, skipped}
 use Rattle.uart_candidate.proofs.viable_at.Statement.{statement}

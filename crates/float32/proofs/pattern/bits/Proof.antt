@@ -3,7 +3,7 @@ use borrow.Author.Needs.{needs}
 use mathlib.Core.Path.{refl}
 use lib.Ieee.{toBits}
 use lib.Ieee.Compare.{differs-from-itself}
-use Rattle.float32.proofs.Halves.{holds}
+use Rattle.float32.proofs.Tests.{holds}
 use Rattle.float32.proofs.Sign.{number}
 use Rattle.float32.proofs.pattern.bits.Statement.{statement}
 use Rattle.float32.proofs.pattern.bits.Tie as tie

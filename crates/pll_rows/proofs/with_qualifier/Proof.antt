@@ -1,0 +1,16 @@
+-- `pll_rows::with_qualifier` meets its contract. Assumes nothing.
+use borrow.Author.Needs.{needs}
+use Rattle.pll_rows.proofs.with_qualifier.Statement.{statement}
+use Rattle.pll_rows.proofs.with_qualifier.Tie as tie
+
+set-field-requires : tie.Need-set-field-requires
+set-field-requires c κs = search needs
+
+returns : tie.Need-returns
+returns c = cc
+
+returns-2 : tie.Need-returns-2
+returns-2 c = search needs
+
+pub with-qualifier-spec : {M : Type 1} → statement M
+with-qualifier-spec = tie.close (tie.spec set-field-requires returns returns-2)

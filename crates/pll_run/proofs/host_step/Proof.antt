@@ -1,0 +1,76 @@
+-- `pll_run::host_step` meets its contract. Assumes nothing.
+use Prim.Native.Nat.{ℕ}
+use mathlib.Core.List.{List}
+use borrow.Author.Needs.{needs}
+use Rattle.pll_sequence.specs.Step.{Steps}
+use Rattle.pll_run.specs.declared.Host.{Host}
+use Rattle.pll_run.proofs.Turns.{starves, does-read, does-write, locks, times-out}
+use Rattle.pll_run.proofs.host_step.Statement.{statement}
+use Rattle.pll_run.proofs.host_step.Tie as tie
+
+-- the arguments, and what the step ensures, from where the request is at hand
+abbrev words : tie.After-sequence2 → List ℕ
+words p = p .before .before .before .before .args .words .now
+
+abbrev host : tie.After-sequence2 → Host
+host p = p .before .before .before .before .args .host
+
+stepped : (p : tie.After-sequence2) → Steps (host p .sequence) (host p .word) (p .before .step .result)
+stepped p = p .before .step .ensures
+
+step-requires : tie.Need-step-requires
+step-requires c κs = search needs
+
+enum-known-request : tie.Need-enum-known-request
+enum-known-request c = search needs
+
+returns : tie.Need-returns
+returns c = starves (words (c .before .before .before .before)) (host (c .before .before .before .before)) (stepped (c .before .before .before .before)) (c .before .before .request .given .1) (c .if1 .taken)
+
+mul-value : tie.Need-mul-value
+mul-value c = search needs
+
+shared-slice-read-value : tie.Need-shared-slice-read-value
+shared-slice-read-value c = search needs
+
+add-used : tie.Need-add-used
+add-used c = search needs
+
+enum-known-request-2 : tie.Need-enum-known-request-2
+enum-known-request-2 c = search needs
+
+enum-told : tie.Need-enum-told
+enum-told c = search needs
+
+enum-told-2 : tie.Need-enum-told-2
+enum-told-2 c = search needs
+
+returns-2 : tie.Need-returns-2
+returns-2 c = does-read (words (c .before .before .before .before .before)) (host (c .before .before .before .before .before)) (stepped (c .before .before .before .before .before)) (c .before .before .before .request .given .1) (c .before .if1 .left)
+
+returns-3 : tie.Need-returns-3
+returns-3 c = does-write (words (c .before .before .before)) (host (c .before .before .before)) (stepped (c .before .before .before)) (c .before .request2 .given .1)
+
+returns-4 : tie.Need-returns-4
+returns-4 c = locks (words (c .before .before)) (host (c .before .before)) (stepped (c .before .before)) (c .enum-told .given .1)
+
+returns-5 : tie.Need-returns-5
+returns-5 c = times-out (words (c .before .before)) (host (c .before .before)) (stepped (c .before .before)) (c .enum-told2 .given .1)
+
+pub host-step-spec : {M : Type 1} → statement M
+host-step-spec =
+    tie.close
+    (tie.spec
+    step-requires
+    enum-known-request
+    returns
+    mul-value
+    shared-slice-read-value
+    add-used
+    enum-known-request-2
+    enum-told
+    enum-told-2
+    returns-2
+    returns-3
+    returns-4
+    returns-5)
