@@ -1,12 +1,16 @@
 // Every clock of a register image, the GEM clocks, and the pure parts of the CPU and DDR set-up.
-use hand_clocks::image::{hand_clocks, hand_gem};
-use hand_clocks::setup::{hand_cpu_init, hand_ddr_init};
+use hand_clocks::image::hand_clocks;
+use hand_clocks::image::hand_gem;
+use hand_clocks::setup::hand_cpu_init;
+use hand_clocks::setup::hand_ddr_init;
+use hand_clocks::update::hand_io_update;
 ghost use mathlib.Core.Path.{_≡_};
 ghost use Rattle.handing.specs.Handed.{Handed, Numbered};
 ghost use Rattle.evaluation.specs.Evaluated.{evaluated};
 ghost use Rattle.clock_setup.specs.Cpu.{CpuRight};
 ghost use Rattle.clock_setup.specs.Ddr.{DdrRight};
 ghost use Rattle.hand_clocks.specs.GemClock.{GemRight};
+ghost use Rattle.hand_clocks.specs.Update.{IoUpdated};
 ghost use Rattle.hand_clocks.specs.Words.{clockWords, cpuWords, ddrWords, ratioOf};
 
 // Twenty-six words, in the order of include/ogruspinu.h; the last is 1 where EMIO brings the trace clock.
@@ -39,4 +43,12 @@ pub extern "C" fn ogr_ddr_init(reference: u32, div_3x: u32, div_2x: u32, out: &m
     ensures { λ r. ⌜ Handed ddrWords 2 (DdrRight reference «div_3x» «div_2x») (now (out .entry)) r (now (out .exit)) ⌝ }
 {
     hand_ddr_init(reference, div_3x, div_2x, out)
+}
+
+// Sets IO clock `which` (0 smc to 6 pcap) in an evaluation's words.
+#[no_mangle]
+pub extern "C" fn ogr_io_update(which: u32, hertz: u32, clocks: &mut [u32]) -> u64
+    ensures { λ r. ⌜ IoUpdated which hertz (now (clocks .entry)) r (now (clocks .exit)) ⌝ }
+{
+    hand_io_update(which, hertz, clocks)
 }

@@ -4,6 +4,7 @@
 mod clock_image;
 mod divisors;
 mod i2c_bus;
-mod pll_rows;
+mod sequence;
+mod settings;
 mod timer;
 mod uart_pairs;

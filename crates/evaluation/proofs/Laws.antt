@@ -55,7 +55,7 @@ built out ratio q =
       «cpu_1x_clk» = q / over-1x ratio;
       «cpu_2x_clk» = q / over-2x ratio;
       «cpu_3x2x_clk» = q / 2;
-      «cpu_6x4x_clk» = q
+      «cpu_6x4x_clk» = q;
     }
 
 pub arm-built :

@@ -1,2 +1,3 @@
 pub mod GemClock
+pub mod Update
 pub mod Words

@@ -1,10 +1,18 @@
 // What evaluation and GEM tell of a crystal and an image.
-use clocks::arm::CpuClockRatio;
 use clocks::Clocks;
-use gem::{calculate_gem_0_ref_clock, calculate_gem_1_ref_clock, GemRead};
-use evaluation::{new_from_regs, ClockReadError, Evaluated};
-use handing::{carrying, no_room, put};
-use registers::{word, GEM_0_CLK_CTRL, GEM_1_CLK_CTRL};
+use clocks::arm::CpuClockRatio;
+use evaluation::ClockReadError;
+use evaluation::Evaluated;
+use evaluation::new_from_regs;
+use gem::GemRead;
+use gem::calculate_gem_0_ref_clock;
+use gem::calculate_gem_1_ref_clock;
+use handing::carrying;
+use handing::no_room;
+use handing::put;
+use registers::GEM_0_CLK_CTRL;
+use registers::GEM_1_CLK_CTRL;
+use registers::word;
 use sources::TraceClk;
 ghost use mathlib.Core.Path.{_≡_};
 ghost use mathlib.Core.List.{[]};
@@ -55,11 +63,31 @@ fn clock_words(c: Clocks) -> [u32; 26]
     let hertz = trace_word(trace);
     let emio = emio_word(trace);
     [
-        c.arm_pll_out, c.io_pll_out, c.ddr_pll_out,
-        arm.ref_clk, ratio, arm.cpu_1x_clk, arm.cpu_2x_clk, arm.cpu_3x2x_clk, arm.cpu_6x4x_clk,
-        ddr.ref_clk, ddr.ddr_3x_clk, ddr.ddr_2x_clk,
-        io.ref_clk, io.smc_clk, io.qspi_clk, io.sdio_clk, io.uart_clk, io.spi_clk, io.can_clk, io.pcap_2x_clk, hertz,
-        pl.fclk_0, pl.fclk_1, pl.fclk_2, pl.fclk_3,
+        c.arm_pll_out,
+        c.io_pll_out,
+        c.ddr_pll_out,
+        arm.ref_clk,
+        ratio,
+        arm.cpu_1x_clk,
+        arm.cpu_2x_clk,
+        arm.cpu_3x2x_clk,
+        arm.cpu_6x4x_clk,
+        ddr.ref_clk,
+        ddr.ddr_3x_clk,
+        ddr.ddr_2x_clk,
+        io.ref_clk,
+        io.smc_clk,
+        io.qspi_clk,
+        io.sdio_clk,
+        io.uart_clk,
+        io.spi_clk,
+        io.can_clk,
+        io.pcap_2x_clk,
+        hertz,
+        pl.fclk_0,
+        pl.fclk_1,
+        pl.fclk_2,
+        pl.fclk_3,
         emio,
     ]
 }

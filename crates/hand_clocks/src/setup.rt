@@ -1,7 +1,12 @@
 // The pure parts of the CPU and DDR set-up.
-use clock_setup::{new_with_2x_3x_init, new_with_cpu_clock_init, CpuSetup, DdrSetup};
+use clock_setup::CpuSetup;
+use clock_setup::DdrSetup;
+use clock_setup::new_with_2x_3x_init;
+use clock_setup::new_with_cpu_clock_init;
 use clocks::arm::CpuClockRatio;
-use handing::{carrying, no_room, put};
+use handing::carrying;
+use handing::no_room;
+use handing::put;
 ghost use mathlib.Core.Path.{_≡_};
 ghost use Rattle.handing.specs.Handed.{Handed};
 ghost use Rattle.clock_setup.specs.Cpu.{CpuRight};
@@ -11,7 +16,11 @@ ghost use Rattle.hand_clocks.specs.Words.{cpuWords, ddrWords, ratioOf};
 fn ratio_of(six: bool) -> CpuClockRatio
     ensures { λ r. ⌜ r ≡ ratioOf six ⌝ }
 {
-    if six { CpuClockRatio::SixToTwoToOne } else { CpuClockRatio::FourToTwoToOne }
+    if six {
+        CpuClockRatio::SixToTwoToOne
+    } else {
+        CpuClockRatio::FourToTwoToOne
+    }
 }
 
 // Four words: 1x, 2x, 3x2x, 6x4x.

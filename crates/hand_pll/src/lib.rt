@@ -1,9 +1,12 @@
 // A whole run of the PLL sequence over the words that a host would return, handed back as a number and three rows.
 use handing::carrying;
 use pll_rows::PllPlan;
-use pll_run::{run, End, Ran};
+use pll_run::End;
+use pll_run::Ran;
+use pll_run::run;
 use pll_settings::PllConfig;
-use pll_start::{configure_pll_unchecked, Start};
+use pll_start::Start;
+use pll_start::configure_pll_unchecked;
 use registers::PllType;
 ghost use mathlib.Core.Path.{_≡_};
 ghost use Prim.Native.Nat.{_<_, _^_};
@@ -42,7 +45,14 @@ fn ran_code(ran: Ran) -> u64
     }
 }
 
-fn run_plan(plan: PllPlan, limit: u16, reads: &[u32], kinds: &mut [u32], numbers: &mut [u32], values: &mut [u32]) -> u64
+fn run_plan(
+    plan: PllPlan,
+    limit: u16,
+    reads: &[u32],
+    kinds: &mut [u32],
+    numbers: &mut [u32],
+    values: &mut [u32],
+) -> u64
     ensures { λ r. ⌜ PlanRan plan limit (now (reads .entry)) (rows (now (kinds .entry)) (now (numbers .entry)) (now (values .entry))) r (rows (now (kinds .exit)) (now (numbers .exit)) (now (values .exit))) ⌝ }
 {
     match configure_pll_unchecked(plan, limit) {
@@ -70,7 +80,18 @@ pub fn hand_pll_run(
         return 12;
     }
     match pll_of(pll) {
-        PllNumber::Of(pll) => run_plan(PllPlan { pll, config, bypassed }, limit, reads, kinds, numbers, values),
+        PllNumber::Of(pll) => run_plan(
+            PllPlan {
+                pll,
+                config,
+                bypassed,
+            },
+            limit,
+            reads,
+            kinds,
+            numbers,
+            values,
+        ),
         PllNumber::NoSuch => 20,
     }
 }

@@ -20,12 +20,13 @@ pl-clocks-requires c κs = search needs
 
 returns : tie.Need-returns
 returns c =
-    rw
-    (c .pl-clocks .ensures,
-    c .before .io-clocks .ensures,
-    c .before .before .ddr-clocks .ensures,
-    c .before .before .before .arm-clocks .ensures,
-    c .before .before .before .before .outputs .ensures)
+    rw (
+      c .pl-clocks .ensures,
+      c .before .io-clocks .ensures,
+      c .before .before .ddr-clocks .ensures,
+      c .before .before .before .arm-clocks .ensures,
+      c .before .before .before .before .outputs .ensures,
+    )
 
 pub all-clocks-spec : {M : Type 1} → statement M
 all-clocks-spec =

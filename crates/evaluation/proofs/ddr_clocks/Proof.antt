@@ -20,12 +20,13 @@ divided-requires-2 c κs = search needs
 
 returns : tie.Need-returns
 returns c =
-    rw
-    (c .divided2 .ensures,
-    c .before .read-field2 .ensures,
-    c .before .before .divided .ensures,
-    c .before .before .before .read-field .ensures,
-    c .before .before .before .before .word .ensures)
+    rw (
+      c .divided2 .ensures,
+      c .before .read-field2 .ensures,
+      c .before .before .divided .ensures,
+      c .before .before .before .read-field .ensures,
+      c .before .before .before .before .word .ensures,
+    )
 
 pub ddr-clocks-spec : {M : Type 1} → statement M
 ddr-clocks-spec =

@@ -37,13 +37,14 @@ cast-t8 c =
 
 returns : tie.Need-returns
 returns c =
-    rw
-    (c .pll-output3 .ensures,
-    c .before .word3 .ensures,
-    c .before .before .pll-output2 .ensures,
-    c .before .before .before .word2 .ensures,
-    c .before .before .before .before .pll-output .ensures,
-    c .before .before .before .before .before .word .ensures)
+    rw (
+      c .pll-output3 .ensures,
+      c .before .word3 .ensures,
+      c .before .before .pll-output2 .ensures,
+      c .before .before .before .word2 .ensures,
+      c .before .before .before .before .pll-output .ensures,
+      c .before .before .before .before .before .word .ensures,
+    )
 
 pub outputs-spec : {M : Type 1} → statement M
 outputs-spec =

@@ -32,16 +32,17 @@ trace-clock-requires c κs = search needs
 
 returns : tie.Need-returns
 returns c =
-    rw
-    (c .trace-clock .ensures,
-    c .before .word .ensures,
-    c .before .before .single-at6 .ensures,
-    c .before .before .before .dual-at .ensures,
-    c .before .before .before .before .single-at5 .ensures,
-    c .before .before .before .before .before .single-at4 .ensures,
-    c .before .before .before .before .before .before .single-at3 .ensures,
-    c .before .before .before .before .before .before .before .single-at2 .ensures,
-    c .before .before .before .before .before .before .before .before .single-at .ensures)
+    rw (
+      c .trace-clock .ensures,
+      c .before .word .ensures,
+      c .before .before .single-at6 .ensures,
+      c .before .before .before .dual-at .ensures,
+      c .before .before .before .before .single-at5 .ensures,
+      c .before .before .before .before .before .single-at4 .ensures,
+      c .before .before .before .before .before .before .single-at3 .ensures,
+      c .before .before .before .before .before .before .before .single-at2 .ensures,
+      c .before .before .before .before .before .before .before .before .single-at .ensures,
+    )
 
 pub io-clocks-spec : {M : Type 1} → statement M
 io-clocks-spec =

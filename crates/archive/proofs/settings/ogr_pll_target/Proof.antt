@@ -1,8 +1,8 @@
--- `archive::pll_rows::ogr_pll_target` hands back what the call tells. Assumes nothing.
+-- `archive::settings::ogr_pll_target` hands back what the call tells. Assumes nothing.
 use Rattle.handing.proofs.Handing.{of-answer}
 use borrow.Author.Needs.{needs}
-use Rattle.archive.proofs.pll_rows.ogr_pll_target.Statement.{statement}
-use Rattle.archive.proofs.pll_rows.ogr_pll_target.Tie as tie
+use Rattle.archive.proofs.settings.ogr_pll_target.Statement.{statement}
+use Rattle.archive.proofs.settings.ogr_pll_target.Tie as tie
 
 new-from-target-clock-requires : tie.Need-new-from-target-clock-requires
 new-from-target-clock-requires c κs = search needs

@@ -1,11 +1,11 @@
--- `archive::pll_rows::hand_setting` hands back the setting that it is given. Assumes nothing.
+-- `archive::settings::hand_setting` hands back the setting that it is given. Assumes nothing.
 use native.Mathlib.Omega.{arith}
 use mathlib.Core.Path.{ap, refl}
 use Rattle.handing.proofs.Handing.{no-row, refuses, answers}
 use Rattle.pll_settings.specs.Settings.{told}
 use borrow.Author.Needs.{needs}
-use Rattle.archive.proofs.pll_rows.hand_setting.Statement.{statement}
-use Rattle.archive.proofs.pll_rows.hand_setting.Tie as tie
+use Rattle.archive.proofs.settings.hand_setting.Statement.{statement}
+use Rattle.archive.proofs.settings.hand_setting.Tie as tie
 
 no-room-requires : tie.Need-no-room-requires
 no-room-requires c κs = search needs

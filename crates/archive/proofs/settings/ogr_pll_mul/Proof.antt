@@ -1,8 +1,8 @@
--- `archive::pll_rows::ogr_pll_mul` hands back what the call tells. Assumes nothing.
+-- `archive::settings::ogr_pll_mul` hands back what the call tells. Assumes nothing.
 use Rattle.handing.proofs.Handing.{of-answer}
 use borrow.Author.Needs.{needs}
-use Rattle.archive.proofs.pll_rows.ogr_pll_mul.Statement.{statement}
-use Rattle.archive.proofs.pll_rows.ogr_pll_mul.Tie as tie
+use Rattle.archive.proofs.settings.ogr_pll_mul.Statement.{statement}
+use Rattle.archive.proofs.settings.ogr_pll_mul.Tie as tie
 
 new-requires : tie.Need-new-requires
 new-requires c κs = search needs
