@@ -145,7 +145,7 @@ fn pl_checks(r: Reason, image: &[u32]) -> Reason
     dual(r, image, FPGA_3_CLK_CTRL, ClockModuleId::Fpga)
 }
 
-// The first check that is broken.
+// The first check that a crystal and an image break: why evaluation refuses them.
 pub fn first_broken(crystal: u32, image: &[u32]) -> Reason
     ensures { λ r. ⌜ r ≡ reason crystal (now (image .entry)) ⌝ }
 {

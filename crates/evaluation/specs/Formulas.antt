@@ -16,6 +16,7 @@ use Rattle.clocks.specs.declared.ddr.DdrClocks.{DdrClocks}
 use Rattle.clocks.specs.declared.PlClocks.{PlClocks}
 use Rattle.clocks.specs.declared.Clocks.{Clocks}
 
+-- the three PLLs
 abbrev pub outputs : ℕ → List ℕ → PllOutputs
 outputs crystal image =
     record {
@@ -41,10 +42,11 @@ abbrev pub over-2x : CpuClockRatio → ℕ
 over-2x FourToTwoToOne = 2
 over-2x SixToTwoToOne = 3
 
--- q over k
+-- q over k: the source over the divisor times k, since dividing twice is dividing by the product
 abbrev pub cpu : ℕ → ℕ → Clock
 cpu word k = record { source = arm-source word; product = read-field word DIVISOR * k }
 
+-- the reference is the ARM PLL's output, whatever the source field selects
 abbrev pub arm-with : PllOutputs → ℕ → CpuClockRatio → ArmClocks
 arm-with out word ratio =
     record {
@@ -59,6 +61,7 @@ arm-with out word ratio =
 abbrev pub arm-clocks : PllOutputs → List ℕ → ArmClocks
 arm-clocks out image = arm-with out (word image ARM-CLK-CTRL) (ratio-of (word image CLK-RATIO-SELECT))
 
+-- the DDR word's two clocks, both from the DDR PLL
 abbrev pub ddr-3x : ℕ → Clock
 ddr-3x word = record { source = Ddr; product = read-field word DIV-3X }
 
@@ -96,6 +99,7 @@ pl-clocks out image =
       «fclk_3» = frequency out (dual (word image FPGA-3-CLK-CTRL));
     }
 
+-- the whole record
 abbrev pub clocks-of : ℕ → List ℕ → Clocks
 clocks-of crystal image =
     let out = outputs crystal image in

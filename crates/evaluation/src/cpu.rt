@@ -1,4 +1,4 @@
-// The CPU's clocks: q is the selected source over its divisor, and each clock is q over a number that the ratio gives.
+// The CPU's clocks: q, the selected source over its divisor, and q over what the ratio says.
 use clocks::arm::ArmClocks;
 use clocks::arm::CpuClockRatio;
 use fields::read_field;
@@ -11,10 +11,10 @@ use sources::PllOutputs;
 use sources::arm_source;
 use sources::divided;
 ghost use mathlib.Core.Path.{_≡_};
-ghost use Rattle.registers.specs.Words.{word as word-of, ARM-CLK-CTRL, CLK-RATIO-SELECT};
 ghost use Rattle.sources.specs.Clock.{frequency};
 ghost use Rattle.evaluation.specs.Formulas.{ratio-of, cpu, arm-clocks};
 
+// The ratio word.
 pub fn cpu_ratio(control: u32) -> CpuClockRatio
     ensures { λ r. ⌜ r ≡ ratio-of control ⌝ }
 {
@@ -25,7 +25,7 @@ pub fn cpu_ratio(control: u32) -> CpuClockRatio
     }
 }
 
-// q
+// q, which is also the clock of the cores.
 pub fn cpu_6x4x(out: PllOutputs, control: u32) -> u32
     ensures { λ r. ⌜ r ≡ frequency out (cpu control 1) ⌝ }
 {

@@ -62,6 +62,7 @@ fn outputs(crystal: u32, image: &[u32]) -> PllOutputs
     }
 }
 
+// The DDR memory's clocks.
 pub fn ddr_clocks(out: PllOutputs, image: &[u32]) -> DdrClocks
     ensures { λ r. ⌜ r ≡ ddr-clocks out (now (image .entry)) ⌝ }
 {
@@ -73,6 +74,7 @@ pub fn ddr_clocks(out: PllOutputs, image: &[u32]) -> DdrClocks
     }
 }
 
+// The programmable logic's clocks.
 pub fn pl_clocks(out: PllOutputs, image: &[u32]) -> PlClocks
     ensures { λ r. ⌜ r ≡ pl-clocks out (now (image .entry)) ⌝ }
 {
@@ -84,6 +86,7 @@ pub fn pl_clocks(out: PllOutputs, image: &[u32]) -> PlClocks
     }
 }
 
+// The whole record, where no check is broken.
 fn all_clocks(crystal: u32, image: &[u32]) -> Clocks
     requires { ⌜ reason crystal (now image) ≡ Nothing ⌝ }
     ensures { λ r. ⌜ r ≡ clocks-of crystal (now (image .entry)) ⌝ }
@@ -105,6 +108,7 @@ fn all_clocks(crystal: u32, image: &[u32]) -> Clocks
     }
 }
 
+// The refusal of a broken check.
 fn error(check: Check) -> ClockReadError
     ensures { λ r. ⌜ told-error {A = Clocks} r ≡ refusal check ⌝ }
 {

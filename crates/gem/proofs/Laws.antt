@@ -1,6 +1,6 @@
 -- One word has one right answer, and its EMIO bit has no part in it. Assumes nothing.
-use mathlib.Core.Path.{_≡_, refl, subst}
-use Prim.Native.Nat.{ℕ, _*_, _<_}
+use mathlib.Core.Path.{_≡_, refl, ap, subst}
+use Prim.Native.Nat.{ℕ}
 use native.Mathlib.Omega.{arith}
 use lib.Dec.{lit≤}
 use Rattle.refusals.specs.Told.{Told, answered}
@@ -12,18 +12,30 @@ use Rattle.sources.specs.declared.PllOutputs.{PllOutputs}
 use Rattle.sources.specs.Clock.{frequency, dual}
 use Rattle.sources.specs.Source.{io-source}
 use Rattle.clocks.specs.declared.module_id.ClockModuleId.{ClockModuleId}
-use Rattle.gem.specs.Gem.{Right, divisor-0, divisor-1, clock}
+use Rattle.clocks.proofs.Laws.{same-module}
+use Rattle.gem.specs.declared.GemRead.{GemRead}
+use Rattle.gem.specs.declared.GemRead.the-variants.{Hertz, DivisorZero}
+use Rattle.gem.specs.Gem.{Right, divisor-0, divisor-1, clock, told}
 
-pub unique : {out : PllOutputs} {word : ℕ} {id : ClockModuleId} {a b : Told ℕ} → Right out word id a → Right out word id b → a ≡ b
-unique (divisor-0 z) (divisor-0 y) = refl
-unique (divisor-0 z) (divisor-1 p y) = refl
-unique (divisor-0 z) (clock p q) = absurd (omega arith)
-unique (divisor-1 p z) (divisor-0 y) = refl
-unique (divisor-1 p z) (divisor-1 q y) = refl
-unique (divisor-1 p z) (clock r q) = absurd (omega arith)
-unique (clock p q) (divisor-0 y) = absurd (omega arith)
-unique (clock p q) (divisor-1 r y) = absurd (omega arith)
-unique (clock p q) (clock r s) = refl
+same : {out : PllOutputs} {word : ℕ} {id : ClockModuleId} {a b : Told ℕ} → Right out word id a → Right out word id b → a ≡ b
+same (divisor-0 z) (divisor-0 y) = refl
+same (divisor-0 z) (divisor-1 p y) = refl
+same (divisor-0 z) (clock p q) = absurd (omega arith)
+same (divisor-1 p z) (divisor-0 y) = refl
+same (divisor-1 p z) (divisor-1 q y) = refl
+same (divisor-1 p z) (clock r q) = absurd (omega arith)
+same (clock p q) (divisor-0 y) = absurd (omega arith)
+same (clock p q) (divisor-1 r y) = absurd (omega arith)
+same (clock p q) (clock r s) = refl
+
+same-told : (a b : GemRead) → told a ≡ told b → a ≡ b
+same-told (Hertz m) (Hertz n) p = cc
+same-told (Hertz m) (DivisorZero i) p = cc
+same-told (DivisorZero i) (Hertz n) p = cc
+same-told (DivisorZero i) (DivisorZero j) p = ap DivisorZero (same-module i j cc)
+
+pub unique : {out : PllOutputs} {word : ℕ} {id : ClockModuleId} (a b : GemRead) → Right out word id (told a) → Right out word id (told b) → a ≡ b
+unique a b p q = same-told a b (same p q)
 
 abbrev EMIO : Field
 EMIO = bit 6

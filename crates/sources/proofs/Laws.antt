@@ -2,19 +2,19 @@
 use mathlib.Core.Path.{_≡_, _∙_, sym, ap, ap₂}
 use mathlib.Core.List.{List}
 use Prim.Native.Nat.{ℕ, _*_, _/_, _^_, _<_, _≤_}
-use native.Mathlib.Nat.{div-div-eq-div-mul, le-of-lt, lt-of-le-of-lt, mul-le-mul-left, mul-lt-mul-of-pos-right}
+use native.Mathlib.Nat.{div-div-eq-div-mul, le-of-lt, lt-of-le-of-lt, mul-le-mul-left, mul-lt-mul-of-pos-right, zero-mul}
 use native.Mathlib.Decide.{decLe}
 use native.Mathlib.Omega.{arith}
 use lib.ListN.{length, List·getD-eq-default}
 use lib.Pow.{pow-pos}
 use Rattle.fields.specs.Word.{read-field}
 use Rattle.registers.specs.declared.PllType.{PllType}
-use Rattle.registers.specs.Fields.{DIVISOR}
+use Rattle.registers.specs.Fields.{DIVISOR, FDIV}
 use Rattle.sources.specs.declared.PllOutputs.{PllOutputs}
 use Rattle.sources.specs.declared.TraceClk.the-variants as clk
 use Rattle.sources.specs.declared.TraceSource.{TraceSource}
 use Rattle.sources.specs.declared.TraceSource.the-variants.{From, Emio}
-use Rattle.sources.specs.Source.{by-code, output-of, trace-source}
+use Rattle.sources.specs.Source.{by-code, output-of, pll-output, trace-source}
 use Rattle.sources.specs.Clock.{trace-clk, trace-from}
 
 -- the arms of a match on a field that was read as r, and whose codes specs/ has in a row
@@ -30,6 +30,11 @@ module _ {A : Type 0} (row : List A) (further : A) {r n : ℕ} (e : r ≡ n) whe
   -- the arm of all further codes
   pub code-further : length row ≤ r → further ≡ by-code row further n
   code-further h = sym (List·getD-eq-default row further (rw (← e) h))
+
+-- without a crystal no PLL gives anything
+pub no-crystal : (control : ℕ) → pll-output 0 control ≡ 0
+unfolding pll-output
+no-crystal control = zero-mul (read-field control FDIV)
 
 -- the product of two numbers of 32 bits has at most 64
 pub wide : {a b : ℕ} → a < 2 ^ 32 → b < 2 ^ 32 → a * b < 2 ^ 64

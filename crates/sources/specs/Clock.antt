@@ -22,12 +22,17 @@ single word = record { source = io-source word; product = read-field word DIVISO
 abbrev pub dual : ℕ → Clock
 dual word = record { source = io-source word; product = read-field word DIVISOR * read-field word DIVISOR-1 }
 
+-- floor division, which by a product of 0 gives 0: evaluation and GEM refuse a divisor of 0, so that no such clock is ever told
 abbrev pub frequency : PllOutputs → Clock → ℕ
 frequency out clock = output-of out (clock .source) / clock .product
 
--- the trace clock of a word: under EMIO there is none
+-- the trace word's clock where it comes from a PLL
+abbrev pub traced : PllType → ℕ → Clock
+traced pll word = record { source = pll; product = read-field word DIVISOR }
+
+-- the trace clock by its source: under EMIO there is none
 abbrev pub trace-from : PllOutputs → ℕ → TraceSource → TraceClk
-trace-from out word (From pll) = clk.Hertz (frequency out (record { source = pll; product = read-field word DIVISOR }))
+trace-from out word (From pll) = clk.Hertz (frequency out (traced pll word))
 trace-from out word Emio = clk.Emio
 
 abbrev pub trace-clk : PllOutputs → ℕ → TraceClk

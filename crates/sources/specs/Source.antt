@@ -10,7 +10,7 @@ use Rattle.sources.specs.declared.PllOutputs.{PllOutputs}
 use Rattle.sources.specs.declared.TraceSource.{TraceSource}
 use Rattle.sources.specs.declared.TraceSource.the-variants.{From, Emio}
 
--- what a PLL gives, for the crystal and its control word
+-- what a PLL gives, for the crystal and its control word: the one place that says so
 unfoldable pub pll-output : ℕ → ℕ → ℕ
 pll-output crystal control = crystal * read-field control FDIV
 

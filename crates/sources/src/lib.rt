@@ -50,10 +50,10 @@ impl PllOutputs {
 }
 
 // The PLL that the ARM word selects.
-pub fn arm_source(word: u32) -> PllType
-    ensures { λ r. ⌜ r ≡ arm-source word ⌝ }
+pub fn arm_source(arm: u32) -> PllType
+    ensures { λ r. ⌜ r ≡ arm-source arm ⌝ }
 {
-    match read_field(word, SOURCE) {
+    match read_field(arm, SOURCE) {
         0 | 1 => PllType::Arm,
         2 => PllType::Ddr,
         _ => PllType::Io,

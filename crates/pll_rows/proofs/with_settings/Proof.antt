@@ -1,5 +1,9 @@
 -- `pll_rows::with_settings` meets its contract. Assumes nothing.
+use Prim.Native.Nat.{ℕ}
+use mathlib.Core.Path.{ap, _∙_}
 use borrow.Author.Needs.{needs}
+use Rattle.fields.specs.Word.{set-field}
+use Rattle.registers.specs.Fields.{LOOP-RESISTOR, LOCK-COUNT}
 use Rattle.pll_rows.proofs.with_settings.Statement.{statement}
 use Rattle.pll_rows.proofs.with_settings.Tie as tie
 
@@ -22,7 +26,12 @@ set-field-requires-3 : tie.Need-set-field-requires-3
 set-field-requires-3 c κs = search needs
 
 returns : tie.Need-returns
-returns c = cc
+returns c =
+    let config = c .before .before .before .before .before .before .args .config in
+    c .set-field3 .ensures
+    ∙ ap (λ (w : ℕ). set-field w LOCK-COUNT (config .«lock_count»))
+    (c .before .before .set-field2 .ensures
+    ∙ ap (λ (w : ℕ). set-field w LOOP-RESISTOR (config .«loop_resistor»)) (c .before .before .before .before .set-field .ensures))
 
 pub with-settings-spec : {M : Type 1} → statement M
 with-settings-spec =
