@@ -1,6 +1,7 @@
 -- `pll_sequence::ask` meets its contract. Assumes nothing.
 use mathlib.Core.Path.{_∙_}
 use Rattle.pll_sequence.proofs.Asks.{asks-none, asks-due}
+use native.Mathlib.Omega.{arith}
 use borrow.Author.Needs.{needs}
 use lib.ListN.{drop}
 use Rattle.pll_rows.specs.Sequence.{sequence}
@@ -8,7 +9,7 @@ use Rattle.pll_sequence.proofs.ask.Statement.{statement}
 use Rattle.pll_sequence.proofs.ask.Tie as tie
 
 returns : tie.Need-returns
-returns c = asks-none (c .before .args .plan) (c .before .args .place) (c .if1 .taken)
+returns c = asks-none (c .before .args .plan) (c .before .args .place) (omega arith)
 
 row-requires : tie.Need-row-requires
 row-requires c κs = search needs

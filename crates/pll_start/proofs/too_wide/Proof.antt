@@ -5,16 +5,16 @@ use Rattle.pll_start.proofs.too_wide.Statement.{statement}
 use Rattle.pll_start.proofs.too_wide.Tie as tie
 
 returns : tie.Need-returns
-returns c = inl (c .if1 .taken)
+returns c = inl (omega arith)
 
 returns-2 : tie.Need-returns-2
-returns-2 c = inr (inl (c .if2 .taken))
+returns-2 c = inr (inl (omega arith))
 
 returns-3 : tie.Need-returns-3
-returns-3 c = inr (inr (inl (c .if3 .taken)))
+returns-3 c = inr (inr (inl (omega arith)))
 
 returns-4 : tie.Need-returns-4
-returns-4 c = inr (inr (inr (c .if4 .taken)))
+returns-4 c = inr (inr (inr (omega arith)))
 
 returns-5 : tie.Need-returns-5
 returns-5 c = record { fdiv = omega arith; charge-pump = omega arith; resistor = omega arith; lock-count = omega arith }

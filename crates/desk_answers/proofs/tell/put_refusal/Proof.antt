@@ -1,0 +1,30 @@
+-- `desk_answers::tell::put_refusal` meets its contract.
+use borrow.Author.Needs.{needs}
+use Rattle.desk_answers.proofs.Writing.{refused}
+use Rattle.desk_answers.proofs.tell.put_refusal.Statement.{statement}
+use Rattle.desk_answers.proofs.tell.put_refusal.Tie as tie
+
+slice-aggregate-put-bytes : tie.Need-slice-aggregate-put-bytes
+slice-aggregate-put-bytes c = search needs
+
+put-bytes-requires : tie.Need-put-bytes-requires
+put-bytes-requires c κs = search needs
+
+put-decimal-requires : tie.Need-put-decimal-requires
+put-decimal-requires c κs = search needs
+
+same-length : tie.Need-same-length
+same-length c = search needs
+
+returns : tie.Need-returns
+returns c = refused _ (c .before .before .before .before .before .before .before .before .before .before .pre) (c .before .before .before .before .before .before .put-bytes .ensures) (c .before .before .put-decimal .ensures)
+
+pub put-refusal-spec : {M : Type 1} → statement M
+put-refusal-spec =
+    tie.close
+    (tie.spec
+    slice-aggregate-put-bytes
+    put-bytes-requires
+    put-decimal-requires
+    same-length
+    returns)

@@ -1,0 +1,46 @@
+-- `desk_divisors::ttc_request::tell_interval` meets its contract.
+use borrow.Author.Needs.{needs}
+use mathlib.Core.Path.{ap}
+use lib.Dec.{lit≤}
+use Rattle.ttc.specs.Interval.{told}
+use Rattle.desk_answers.proofs.Replying.{told-as}
+use Rattle.desk_divisors.specs.Requests.{showSetting}
+use Rattle.desk_divisors.proofs.ttc_request.tell_interval.Statement.{statement}
+use Rattle.desk_divisors.proofs.ttc_request.tell_interval.Tie as tie
+
+enum-known-answer : tie.Need-enum-known-answer
+enum-known-answer c = search needs
+
+put-setting-requires : tie.Need-put-setting-requires
+put-setting-requires c κs = search needs
+
+enum-told : tie.Need-enum-told
+enum-told c = search needs
+
+put-refusal-requires : tie.Need-put-refusal-requires
+put-refusal-requires c κs = search needs
+
+same-length : tie.Need-same-length
+same-length c = search needs
+
+returns : tie.Need-returns
+returns c = told-as showSetting 30 (ap told (c .before .before .before .before .before .answer .given .1)) (lit≤ tt) (c .before .before .put-setting .ensures)
+
+same-length-2 : tie.Need-same-length-2
+same-length-2 c = search needs
+
+returns-2 : tie.Need-returns-2
+returns-2 c = told-as showSetting 20 (ap told (c .before .before .before .before .enum-told .given .1)) (lit≤ tt) (c .before .before .put-refusal .ensures)
+
+pub tell-interval-spec : {M : Type 1} → statement M
+tell-interval-spec =
+    tie.close
+    (tie.spec
+    enum-known-answer
+    put-setting-requires
+    enum-told
+    put-refusal-requires
+    same-length
+    returns
+    same-length-2
+    returns-2)

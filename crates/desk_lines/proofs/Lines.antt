@@ -1,0 +1,76 @@
+-- Laws of a line: its carriage return, and how each kind of line comes to its answer.
+use mathlib.Core.Path.{_≡_, refl, sym, ap, _∙_, subst, subst⁻¹}
+use mathlib.Core.Bool.{cond}
+use mathlib.Core.List.{List, [], _∷_, _++_}
+use Prim.Native.Nat.{ℕ, zero, suc, _+_, _-_, _≤_, _<_}
+use native.Mathlib.Nat.{le-refl}
+use native.Mathlib.Omega.{arith}
+use borrow.Author.Tests.{eq-eqb, ne-eqb}
+use lib.ListN.{length, getD, take, length-append}
+use lib.Seq.{take-all, getD-take, length-take-le}
+use Rattle.text.specs.Bytes.{bytes}
+use Rattle.text.specs.Put.{Wrote, Put}
+use Rattle.text.proofs.Writing.{more, nothing}
+use Rattle.words.specs.Words.{words}
+use Rattle.desk_answers.specs.Reply.{ROOM, Says}
+use Rattle.desk_requests.specs.Requests.{Answer}
+use Rattle.desk_lines.specs.Line.{trimmed, Comment, TOO-LONG, RequestLine, Writes, Line, LineAnswered}
+use Rattle.desk_lines.specs.declared.Answered.the-variants as Answered
+
+-- the carriage return
+pub no-bytes : (line : List ℕ) → length line ≡ 0 → take 0 line ≡ trimmed line
+no-bytes [] e = refl
+no-bytes (c ∷ line) e = absurd (omega arith)
+
+less-one : (n : ℕ) → suc (suc n) - 1 ≡ suc (suc n - 1)
+less-one n = omega arith
+
+pub returned : (line : List ℕ) → 0 < length line → getD line (length line - 1) 0 ≡ 13 → take (length line - 1) line ≡ trimmed line
+returned [] h e = absurd (omega arith)
+returned (c ∷ []) h e = sym (ap (λ b. cond b [] (c ∷ [])) (eq-eqb c 13 e))
+returned (c ∷ d ∷ line) h e =
+    ap (λ (n : ℕ). take n (c ∷ d ∷ line)) (less-one (length line))
+    ∙ ap (λ (l : List ℕ). c ∷ l) (returned (d ∷ line) (omega arith) (ap (λ (n : ℕ). getD (c ∷ d ∷ line) n 0) (sym (less-one (length line))) ∙ e))
+
+kept : (line : List ℕ) → 0 < length line → (getD line (length line - 1) 0 ≡ 13 → ⊥) → line ≡ trimmed line
+kept [] h n = absurd (omega arith)
+kept (c ∷ []) h n = sym (ap (λ b. cond b [] (c ∷ [])) (ne-eqb c 13 n))
+kept (c ∷ d ∷ line) h n = ap (λ (l : List ℕ). c ∷ l) (kept (d ∷ line) (omega arith) (λ e. n (ap (λ (m : ℕ). getD (c ∷ d ∷ line) m 0) (less-one (length line)) ∙ e)))
+
+pub not-returned : (line : List ℕ) → 0 < length line → (getD line (length line - 1) 0 ≡ 13 → ⊥) → take (length line) line ≡ trimmed line
+not-returned line h n = take-all (length line) line (le-refl (length line)) ∙ kept line h n
+
+-- a request and its newline
+pub with-newline : {line : List (List ℕ)} {before : List ℕ} {at : ℕ} {middle : List ℕ} {past : ℕ} {after : List ℕ} {next : ℕ} → at + ROOM ≤ length before → Says (Answer line) before at middle past → Put (10 ∷ []) middle past after next → Writes (RequestLine line) before at after next
+with-newline room s p =
+    record {
+      text = s .text ++ (10 ∷ []);
+      right = RequestLine.answer (s .text) (s .right);
+      wrote = more (s .said .wrote) p (omega (arith, s .said .within));
+    }
+
+-- the kinds of lines; `end` is where the line ends without its carriage return
+module _ (line : List ℕ) (before : List ℕ) (at : ℕ) where
+  pub no-room : length before < at + ROOM → LineAnswered line before at before Answered.NoRoom
+  no-room h = LineAnswered.no-room h refl
+
+  module _ (end : ℕ) (room : at + ROOM ≤ length before) (within : end ≤ length line) (is : take end line ≡ trimmed line) where
+    size : length (trimmed line) ≡ end
+    size = ap length (sym is) ∙ length-take-le end line within
+
+    head : 0 < end → getD (trimmed line) 0 0 ≡ getD line 0 0
+    head h = ap (λ (l : List ℕ). getD l 0 0) (sym is) ∙ getD-take end line 0 0 h
+
+    pub blank-line : end ≡ 0 → LineAnswered line before at before (Answered.At at)
+    blank-line e = LineAnswered.written [] at room (Line.blank (sym is ∙ ap (λ (n : ℕ). take n line) e)) (nothing before at (omega arith))
+
+    pub comment-line : (end ≡ 0 → ⊥) → getD line 0 0 ≡ 35 → LineAnswered line before at before (Answered.At at)
+    comment-line n e = LineAnswered.written [] at room (Line.comment (head (omega arith) ∙ e)) (nothing before at (omega arith))
+
+    module _ (after : List ℕ) (next : ℕ) (some : end ≡ 0 → ⊥) (no-comment : getD line 0 0 ≡ 35 → ⊥) where
+      pub long-line : 1024 < end → Put (bytes TOO-LONG) before at after next → LineAnswered line before at after (Answered.At next)
+      long-line l p = LineAnswered.written (bytes TOO-LONG) next room (Line.too-long (λ e. no-comment (sym (head (omega arith)) ∙ e)) (omega (arith, size))) (p .fits (omega arith))
+
+      pub request-line : end ≤ 1024 → Writes (RequestLine (words (take end line))) before at after next → LineAnswered line before at after (Answered.At next)
+      request-line l w =
+          LineAnswered.written (w .text) next room (Line.request (w .text) (omega (arith, size)) (λ e. no-comment (sym (head (omega arith)) ∙ e)) (omega (arith, size)) (subst (λ (t : List ℕ). RequestLine (words t) (w .text)) is (w .right))) (w .wrote)

@@ -1,0 +1,62 @@
+-- `desk_pll::answer_pll_target` meets its contract.
+use borrow.Author.Needs.{needs}
+use Rattle.desk_answers.proofs.Replying.{faulted, replied}
+use Rattle.desk_pll.proofs.answer_pll_target.Statement.{statement}
+use Rattle.desk_pll.proofs.answer_pll_target.Tie as tie
+
+slice-aggregate-only-numbers : tie.Need-slice-aggregate-only-numbers
+slice-aggregate-only-numbers c = search needs
+
+only-numbers-requires : tie.Need-only-numbers-requires
+only-numbers-requires c κs = search needs
+
+enum-known-word : tie.Need-enum-known-word
+enum-known-word c = search needs
+
+put-fault-requires : tie.Need-put-fault-requires
+put-fault-requires c κs = search needs
+
+enum-told : tie.Need-enum-told
+enum-told c = search needs
+
+array-read-new-from-target-clock : tie.Need-array-read-new-from-target-clock
+array-read-new-from-target-clock c = search needs
+
+array-read-new-from-target-clock-2 : tie.Need-array-read-new-from-target-clock-2
+array-read-new-from-target-clock-2 c = search needs
+
+new-from-target-clock-requires : tie.Need-new-from-target-clock-requires
+new-from-target-clock-requires c κs = search needs
+
+tell-setting-requires : tie.Need-tell-setting-requires
+tell-setting-requires c κs = search needs
+
+same-length : tie.Need-same-length
+same-length c = search needs
+
+returns : tie.Need-returns
+returns c = faulted _ _ (c .before .before .before .before .before .before .before .before .only-numbers .ensures) (c .before .before .before .before .before .word .given .1) (c .before .before .put-fault .ensures)
+
+same-length-2 : tie.Need-same-length-2
+same-length-2 c = search needs
+
+returns-2 : tie.Need-returns-2
+returns-2 c = replied _ _ (c .before .before .before .before .before .before .before .before .only-numbers .ensures) _ (c .before .before .before .before .before .enum-told .given .1) (c .before .before .before .before .new-from-target-clock .ensures) (c .before .before .tell-setting .ensures)
+
+pub answer-pll-target-spec : {M : Type 1} → statement M
+answer-pll-target-spec =
+    tie.close
+    (tie.spec
+    slice-aggregate-only-numbers
+    only-numbers-requires
+    enum-known-word
+    put-fault-requires
+    enum-told
+    array-read-new-from-target-clock
+    array-read-new-from-target-clock-2
+    new-from-target-clock-requires
+    tell-setting-requires
+    same-length
+    returns
+    same-length-2
+    returns-2)

@@ -1,0 +1,2 @@
+pub mod Help
+pub mod Requests

@@ -1,0 +1,23 @@
+// `help`: the requests in one line.
+use desk_answers::put_fault;
+use desk_words::Fault;
+use text::put_bytes;
+ghost use Prim.Native.Nat.{_+_, _≤_};
+ghost use lib.ListN.{length};
+ghost use Rattle.words.specs.Words.{wordsFrom};
+ghost use Rattle.desk_answers.specs.Reply.{ROOM, Says};
+ghost use Rattle.desk_requests.specs.Help.{HelpReply};
+
+pub fn answer_help(line: &[u8], from: usize, out: &mut [u8], at: usize) -> usize
+    requires { ⌜ at + ROOM ≤ length (now out) ⌝ }
+    ensures { λ r. ⌜ Says (HelpReply (wordsFrom (now (line .entry)) from)) (now (out .entry)) at (now (out .exit)) r ⌝ }
+{
+    if from <= line.len() {
+        return put_fault(2, Fault::OneTooMany, out, at);
+    }
+    put_bytes(
+        b"two-stage REF TARGET MAX gives D0 D1; i2c REF normal|fast gives A B; i2c-speed REF A B gives HZ; ttc REF FREQ gives none|PRESCALER TICKS; pll-target CRYSTAL TARGET and pll-mul MUL give FDIV CP RES LOCK; uart REF BAUD gives CD BDIV ERROR; uart-list REF BAUD gives the count and CD:BDIV:ERROR for each pair; help gives this line",
+        out,
+        at,
+    )
+}

@@ -1,0 +1,38 @@
+-- The words of a line: what stands between its spaces. Two spaces in a row, or one at either end, make an empty word.
+use Prim.Native.Nat.{ℕ, _+_, _-_, _≤_, _<_}
+use mathlib.Core.Path.{_≡_}
+use mathlib.Core.Bool.{cond}
+use mathlib.Core.List.{List, [], _∷_}
+use lib.Dec.{eqb, ltb}
+use lib.ListN.{length, getD, take, drop}
+use Rattle.words.specs.declared.split.Placed.{Placed}
+use Rattle.words.specs.declared.split.Placed.the-variants as Placed
+
+-- a byte in front of the first word
+abbrev pub before : ℕ → List (List ℕ) → List (List ℕ)
+before c [] = (c ∷ []) ∷ []
+before c (w ∷ ws) = (c ∷ w) ∷ ws
+
+abbrev pub words : List ℕ → List (List ℕ)
+words [] = [] ∷ []
+words (c ∷ line) = cond (eqb c 32) ([] ∷ words line) (before c (words line))
+
+-- the words from a position on: none where the line has ended before it
+unfoldable pub wordsFrom : List ℕ → ℕ → List (List ℕ)
+wordsFrom line from = cond (ltb (length line) from) [] (words (drop from line))
+
+-- `end` is the first place of the byte from `from` on, or the line's end
+pub record Until (line : List ℕ) (from byte end : ℕ) : Type 0 where
+  pub begun : from ≤ end
+  pub inside : end ≤ length line
+  pub none-before : (k : ℕ) → k < end - from → getD line (from + k) 0 ≡ byte → ⊥
+  pub there : end < length line → getD line end 0 ≡ byte
+
+-- the bytes from `from` up to `end`
+abbrev pub part : List ℕ → ℕ → ℕ → List ℕ
+part line from end = take (end - from) (drop from line)
+
+-- the first place of a word among names, or that it is none of them
+pub data Place (word : List ℕ) (names : List (List ℕ)) : Placed → Type 0 where
+  here : (i : ℕ) → i < length names → getD names i [] ≡ word → ((j : ℕ) → j < i → getD names j [] ≡ word → ⊥) → Place word names (Placed.At i)
+  nowhere : ((j : ℕ) → j < length names → getD names j [] ≡ word → ⊥) → Place word names Placed.Nowhere

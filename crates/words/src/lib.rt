@@ -1,0 +1,12 @@
+// The words of a line, and the numbers that they stand for.
+mod read;
+mod split;
+
+pub use read::Hex;
+pub use read::Number;
+pub use read::read_decimal;
+pub use read::read_hex;
+pub use split::Placed;
+pub use split::place;
+pub use split::until;
+pub use split::word_end;

@@ -1,0 +1,99 @@
+// The number that a word stands for.
+ghost use mathlib.Core.Path.{_≡_};
+ghost use Prim.Native.Nat.{_+_, _*_, _-_, _≤_, _<_, _^_, min};
+ghost use Rattle.text.specs.Digits.{digitOf};
+ghost use Rattle.words.specs.Reading.{Decimal, HexWord};
+
+pub enum Number {
+    Value(u32),
+    Empty,
+    NotADigit,
+    TooLarge,
+}
+
+pub enum Hex {
+    Value(u32),
+    Empty,
+    NotEightDigits,
+}
+
+// One or more decimal digits, with or without zeros in front: the value has to fit, not the word.
+pub fn read_decimal(word: &[u8]) -> Number
+    ensures { λ r. ⌜ Decimal (now (word .entry)) r ⌝ }
+{
+    if word.len() == 0 {
+        return Number::Empty;
+    }
+    let mut value: u64 = 0;
+    let mut i = 0;
+    while i < word.len() {
+        let c = word[i];
+        if c < 48 {
+            return Number::NotADigit;
+        }
+        if 57 < c {
+            return Number::NotADigit;
+        }
+        value = appended(value, c);
+        i += 1;
+    }
+    if value < 4294967296 {
+        Number::Value(value as u32)
+    } else {
+        Number::TooLarge
+    }
+}
+
+// The value with one decimal digit more, held at 2^32 from there on: enough to know that it is too large.
+fn appended(value: u64, c: u8) -> u64
+    requires { ⌜ (value ≤ 2 ^ 32) × (48 ≤ c) × (c ≤ 57) ⌝ }
+    ensures { λ r. ⌜ r ≡ min (value * 10 + (c - 48)) (2 ^ 32) ⌝ }
+{
+    let more = value * 10 + (c - 48) as u64;
+    if more < 4294967296 { more } else { 4294967296 }
+}
+
+// Eight hex digits, in either case.
+pub fn read_hex(word: &[u8]) -> Hex
+    ensures { λ r. ⌜ HexWord (now (word .entry)) r ⌝ }
+{
+    if word.len() == 0 {
+        return Hex::Empty;
+    }
+    if word.len() != 8 {
+        return Hex::NotEightDigits;
+    }
+    let mut value: u32 = 0;
+    let mut i = 0;
+    while i < word.len() {
+        let d = digit(word[i]);
+        if 15 < d {
+            return Hex::NotEightDigits;
+        }
+        value = value * 16 + d;
+        i += 1;
+    }
+    Hex::Value(value)
+}
+
+// What a byte stands for as a hex digit, or 16.
+fn digit(c: u8) -> u32
+    ensures { λ r. ⌜ r ≡ digitOf c ⌝ }
+{
+    let c = c as u32;
+    if c < 48 {
+        16
+    } else if c < 58 {
+        c - 48
+    } else if c < 65 {
+        16
+    } else if c < 71 {
+        c - 55
+    } else if c < 97 {
+        16
+    } else if c < 103 {
+        c - 87
+    } else {
+        16
+    }
+}

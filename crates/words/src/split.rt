@@ -1,0 +1,54 @@
+// The words of a line, one after the other. A position that is the line's length stands before an empty last word; one past
+// it says that there is no word more.
+use check::same;
+ghost use Prim.Native.Nat.{_+_, _≤_};
+ghost use mathlib.Core.Path.{_≡_};
+ghost use mathlib.Core.List.{_∷_};
+ghost use lib.ListN.{length};
+ghost use Rattle.words.specs.Words.{words, wordsFrom, Until, part, Place};
+
+// The first place of a byte from `from` on, or the end. For callers that have not passed the end, hence the requirement.
+pub fn until(line: &[u8], from: usize, byte: u8) -> usize
+    requires { ⌜ from ≤ length (now line) ⌝ }
+    ensures { λ r. ⌜ Until (now (line .entry)) from byte r ⌝ }
+{
+    let mut at = from;
+    while at < line.len() {
+        if line[at] == byte {
+            return at;
+        }
+        at += 1;
+    }
+    at
+}
+
+// Where the word that begins at `from` ends; the next word begins one past that.
+pub fn word_end(line: &[u8], from: usize) -> usize
+    requires { ⌜ from ≤ length (now line) ⌝ }
+    ensures { λ r. ⌜ (from ≤ r) × (r ≤ length (now (line .entry))) × (wordsFrom (now (line .entry)) from ≡ part (now (line .entry)) from r ∷ wordsFrom (now (line .entry)) (r + 1)) ⌝ }
+{
+    until(line, from, 32)
+}
+
+// A word's place among names, counted from 0.
+pub enum Placed {
+    At(usize),
+    Nowhere,
+}
+
+// Which of the names, given as the words of one line, the word is.
+pub fn place(word: &[u8], names: &[u8]) -> Placed
+    ensures { λ r. ⌜ Place (now (word .entry)) (words (now (names .entry))) r ⌝ }
+{
+    let mut i = 0;
+    let mut from = 0;
+    while from <= names.len() {
+        let end = word_end(names, from);
+        if same(word, &names[from..end]) {
+            return Placed::At(i);
+        }
+        i += 1;
+        from = end + 1;
+    }
+    Placed::Nowhere
+}
