@@ -8,3 +8,4 @@ mod sequence;
 mod settings;
 mod timer;
 mod uart_pairs;
+mod uart_records;

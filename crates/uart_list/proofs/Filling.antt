@@ -1,25 +1,25 @@
 -- How the lent records fill: what is written after i turns, and what stands there at the end.
 use mathlib.Core.Path.{_≡_, refl, sym, _∙_, ap, subst, subst₂}
 use mathlib.Core.Logic.{_⊎_, inl, inr}
-use mathlib.Core.Bool.{Bool, true, false, not, cond}
+use mathlib.Core.Bool.{true, not}
 use mathlib.Core.List.{List, [], _∷_, _++_}
-use Prim.Native.Nat.{ℕ, zero, suc, _+_, _^_, _<_, _≤_, zero-le}
-use native.Mathlib.Nat.{le-of-suc-le-suc, not-suc-le-zero, add-zero, zero-add}
+use Prim.Native.Nat.{ℕ, zero, suc, _+_, _<_, _≤_, zero-le}
+use native.Mathlib.Nat.{le-of-suc-le-suc, not-suc-le-zero}
 use native.Mathlib.Numerals.{add-one}
 use native.Mathlib.Omega.{arith}
 use lib.ListN.{length, getD, take, drop, set, length-append, length-take, length-drop}
 use lib.Seq.{take-length}
-use borrow.Author.Tests.{le-leb, lt-leb, ne-eqb}
-use lib.Dec.{leb, eqb}
+use borrow.Author.Tests.{ne-eqb}
+use lib.Dec.{eqb}
 use Rattle.refusals.specs.Told.{Told, answered, refused}
 use Rattle.refusals.specs.Number.{NO-ROOM}
 use Rattle.float32.specs.Whole.{ofWhole}
-use Rattle.uart_candidate.specs.Range.{FIRST, LAST}
+use Rattle.uart_candidate.specs.Range.{FIRST, LAST, COUNT}
 use Rattle.uart_candidate.specs.Candidate.{Viable}
 use Rattle.uart_candidate.specs.declared.BaudDivisors.{BaudDivisors}
-use Rattle.uart_list.specs.Listing.{Viables, Right, listed, no-room, told}
+use Rattle.uart_list.specs.Listing.{Viables, Right, listed, no-room}
 use Rattle.uart_list.specs.Turns.{none, Excess, Start}
-use Rattle.uart_list.proofs.Laws.{From, all, beyond, taken, passed, done, only}
+use Rattle.uart_list.proofs.Laws.{From, few, all, beyond, taken, passed, done, only}
 
 -- the first i pairs of ws over ys
 abbrev pub over : List BaudDivisors → ℕ → List BaudDivisors → List BaudDivisors
@@ -37,11 +37,12 @@ over-suc (w ∷ ws) (y ∷ ys) (suc i) h g = ap (λ (l : List BaudDivisors). w �
 pub over-more : (ws ys : List BaudDivisors) (i : ℕ) → i < length ws → length ws ≤ length ys → set (over ws i ys) i (getD ws i none) ≡ over ws (i + 1) ys
 over-more ws ys i h g = over-suc ws ys i h g ∙ ap (λ (k : ℕ). over ws k ys) (sym (add-one i))
 
--- ---- What is to be written, and what is to be answered beside how many that is. A list that is refused leaves nothing to write.
-pub record Plan (reference target : ℕ) (ys : List BaudDivisors) (refused : ℕ) (ws : List BaudDivisors) : Type 0 where
+-- ---- What is to be written, and what is to be told. A list that is refused leaves nothing to write.
+pub record Plan (reference target : ℕ) (ys : List BaudDivisors) (excess : ℕ) (ws : List BaudDivisors) : Type 0 where
   pub room : length ws ≤ length ys
-  pub sum : refused < 2 ^ 64 → length ys < 2 ^ 64 → length ws + refused < 2 ^ 64
-  pub right : Right reference target ys (told (length ys) (length ws + refused)) (over ws (length ws) ys)
+  pub few : (length ws ≤ COUNT) × (excess ≤ COUNT)
+  pub right : ((excess ≡ 0) × Right reference target ys (answered (length ws)) (over ws (length ws) ys))
+      ⊎ ((excess ≡ 0 → ⊥) × Right reference target ys (refused NO-ROOM (excess ∷ [])) (over ws (length ws) ys))
 
 -- before the turn at k the first i pairs are those below k
 pub record Reached (reference target : ℕ) (ws : List BaudDivisors) (k i : ℕ) : Type 0 where
@@ -81,14 +82,14 @@ module _ (reference target : ℕ) (ys : List BaudDivisors) where
   fitting : (ps : List BaudDivisors) → Viables (ofWhole reference) (ofWhole target) ps → length ps ≤ length ys → Chosen 0 FIRST
   fitting ps v l = (
     ps,
-    record { room = l; sum = λ g h. omega arith; right = simp (add-zero, take-length, le-leb (length ps) (length ys) l) (listed ps v l) },
+    record { room = l; few = (few _ _ v, zero-le); right = inl (refl, rw (take-length ps) (listed ps v l)) },
     record { to = omega arith; within = zero-le; ahead = all _ _ v },
   )
 
   refusing : (n : ℕ) (ps : List BaudDivisors) → Viables (ofWhole reference) (ofWhole target) ps → length ys < length ps → n ≡ length ps → Chosen n (LAST + 1)
   refusing n ps v l e = (
     [],
-    record { room = zero-le; sum = λ g h. omega arith; right = simp (zero-add, e, lt-leb (length ps) (length ys) l) (no-room ps v l) },
+    record { room = zero-le; few = (zero-le, omega (arith, few _ _ v)); right = inr (λ (z : n ≡ 0). omega arith, rw e (no-room ps v l)) },
     record { to = omega arith; within = zero-le; ahead = beyond _ _ (omega arith) },
   )
 
@@ -104,25 +105,8 @@ pub some-cd : {a : ℕ} → 1 ≤ a → not (eqb a 0) ≡ true
 some-cd {a} h = ap not (ne-eqb a 0 (λ (z : a ≡ 0). omega arith))
 
 -- ---- one answer to each question, and one content of the lent records
--- what is told carries the number
-carried : Told ℕ → ℕ
-carried (answered n) = n
-carried (refused c []) = 0
-carried (refused c (n ∷ ns)) = n
-
-carried-told : (lent n : ℕ) → carried (told lent n) ≡ n
-unfolding carried
-carried-told lent n = go (leb n lent)
-  where
-    go : (b : Bool) → carried (cond b (answered n) (refused NO-ROOM (n ∷ []))) ≡ n
-    go true = refl
-    go false = refl
-
-same : {reference target : ℕ} {lent xs zs : List BaudDivisors} {a b : Told ℕ} → Right reference target lent a xs → Right reference target lent b zs → (a ≡ b) × (xs ≡ zs)
-same {lent} (listed ps v l) (listed qs w m) = let e = only _ _ ps qs (all _ _ v) (all _ _ w) in (ap (λ (x : List BaudDivisors). answered (length x)) e, ap (λ (x : List BaudDivisors). x ++ drop (length x) lent) e)
-same (listed ps v l) (no-room qs w m) = absurd (let e = ap length (only _ _ ps qs (all _ _ v) (all _ _ w)) in omega arith)
-same (no-room ps v l) (listed qs w m) = absurd (let e = ap length (only _ _ ps qs (all _ _ v) (all _ _ w)) in omega arith)
-same (no-room ps v l) (no-room qs w m) = let e = only _ _ ps qs (all _ _ v) (all _ _ w) in (ap (λ (x : List BaudDivisors). refused NO-ROOM (length x ∷ [])) e, refl)
-
-pub unique : {reference target : ℕ} (n m : ℕ) {lent xs zs : List BaudDivisors} → Right reference target lent (told (length lent) n) xs → Right reference target lent (told (length lent) m) zs → (n ≡ m) × (xs ≡ zs)
-unique n m {lent} p q = let s = same p q in (sym (carried-told (length lent) n) ∙ ap carried (s .0) ∙ carried-told (length lent) m, s .1)
+pub unique : {reference target : ℕ} {lent xs zs : List BaudDivisors} {a b : Told ℕ} → Right reference target lent a xs → Right reference target lent b zs → (a ≡ b) × (xs ≡ zs)
+unique {lent} (listed ps v l) (listed qs w m) = let e = only _ _ ps qs (all _ _ v) (all _ _ w) in (ap (λ (x : List BaudDivisors). answered (length x)) e, ap (λ (x : List BaudDivisors). x ++ drop (length x) lent) e)
+unique (listed ps v l) (no-room qs w m) = absurd (let e = ap length (only _ _ ps qs (all _ _ v) (all _ _ w)) in omega arith)
+unique (no-room ps v l) (listed qs w m) = absurd (let e = ap length (only _ _ ps qs (all _ _ v) (all _ _ w)) in omega arith)
+unique (no-room ps v l) (no-room qs w m) = let e = only _ _ ps qs (all _ _ v) (all _ _ w) in (ap (λ (x : List BaudDivisors). refused NO-ROOM (length x ∷ [])) e, refl)

@@ -178,6 +178,9 @@ module _ (reference target : Float) where
       let d = decided reference target k in
       (put (d .0) (r .0), before (d .1) (r .1), longer (d .0) (r .0) n (r .2))
 
+  pub few : {ps : List BaudDivisors} → Viables reference target ps → length ps ≤ COUNT
+  few {ps} v = let r = listed COUNT FIRST refl in subst (λ (x : List BaudDivisors). length x ≤ COUNT) (only (r .0) ps (r .1) (all v)) (r .2)
+
   pub enough : {lent : ℕ} → COUNT ≤ lent → Excess reference target lent 0
   enough l = let r = listed COUNT FIRST refl in record { list = r .0; viables = whole (r .1); over = inl (le-trans (r .2) l, refl) }
 

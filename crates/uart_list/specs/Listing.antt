@@ -1,9 +1,7 @@
 -- Document 01's list of viable pairs: in rising bdiv, written into a lent run of records.
 use mathlib.Core.Path.{_≡_}
-use mathlib.Core.Bool.{cond}
 use mathlib.Core.List.{List, [], _∷_, _++_, List·Memᴰ}
 use Prim.Native.Nat.{ℕ, _+_, _<_, _≤_}
-use lib.Dec.{leb}
 use lib.Ieee.{Float}
 use lib.ListN.{length, drop}
 use Rattle.refusals.specs.Told.{Told, answered, refused}
@@ -29,11 +27,8 @@ pub record Counts (reference target : Float) (n : ℕ) : Type 0 where
   pub viables : Viables reference target list
   pub many : n ≡ length list
 
--- The call says how many there are. To a caller that lent as many records or more that is the answer, to any other it is refusal 9.
-abbrev pub told : (lent n : ℕ) → Told ℕ
-told lent n = cond (leb n lent) (answered n) (refused NO-ROOM (n ∷ []))
-
--- what is told, and what the lent records are afterwards
+-- What is told, and what the lent records are afterwards. More pairs than were lent records for is refusal 9, which says how many
+-- there are.
 pub data Right (reference target : ℕ) (lent : List BaudDivisors) : Told ℕ → List BaudDivisors → Type 0 where
   listed : (ps : List BaudDivisors) → Viables (ofWhole reference) (ofWhole target) ps → length ps ≤ length lent
       → Right reference target lent (answered (length ps)) (ps ++ drop (length ps) lent)

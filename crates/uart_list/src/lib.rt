@@ -1,10 +1,10 @@
-// The viable pairs of a UART clock divisor and baud divider: how many there are, and the list of them in lent records.
+// The viable pairs of a UART clock divisor and baud divider: how many there are, and the steps of listing them in lent records.
+// The call that lists them is the archive's, which lends the records on from C.
 use uart_candidate::BaudDivisors;
 use uart_candidate::Tried;
 ghost use mathlib.Core.Path.{_≡_};
-ghost use lib.ListN.{length};
 ghost use Rattle.float32.specs.Whole.{ofWhole};
-ghost use Rattle.uart_list.specs.Listing.{Counts, Right, told};
+ghost use Rattle.uart_list.specs.Listing.{Counts};
 ghost use Rattle.uart_list.specs.Turns.{ones, Slot, Excess, Start};
 
 fn one_of(tried: Tried) -> usize
@@ -30,7 +30,7 @@ pub fn viable_count(reference: u32, target: u32) -> usize
 }
 
 // How many there are where `lent` records are too few, else 0. The count is taken only where the records could be too few.
-fn excess(reference: u32, target: u32, lent: usize) -> usize
+pub fn excess(reference: u32, target: u32, lent: usize) -> usize
     ensures { λ r. ⌜ Excess (ofWhole reference) (ofWhole target) lent r ⌝ }
 {
     if lent >= uart_candidate::COUNT {
@@ -41,7 +41,7 @@ fn excess(reference: u32, target: u32, lent: usize) -> usize
 }
 
 // Where a list that is refused begins: past its end.
-fn start(refused: usize) -> u32
+pub fn start(refused: usize) -> u32
     ensures { λ r. ⌜ Start refused r ⌝ }
 {
     if refused == 0 {
@@ -52,7 +52,7 @@ fn start(refused: usize) -> u32
 }
 
 // The viable pair with this bdiv. A clock divisor of 0 says that there is none.
-fn record_at(reference: u32, target: u32, bdiv: u32) -> BaudDivisors
+pub fn record_at(reference: u32, target: u32, bdiv: u32) -> BaudDivisors
     ensures { λ r. ⌜ Slot (ofWhole reference) (ofWhole target) bdiv r ⌝ }
 {
     let tried = uart_candidate::viable(reference, target, bdiv);
@@ -64,28 +64,4 @@ fn record_at(reference: u32, target: u32, bdiv: u32) -> BaudDivisors
             error: 0.0,
         },
     }
-}
-
-// Writes the viable pairs into `out`, and answers how many there are: more than `out` has room for is refusal 9.
-// Each record is written once, and none before it is known that there is room for all.
-#[no_mangle]
-pub extern "C" fn viable_baud_divisors(
-    out: &mut [BaudDivisors],
-    reference: u32,
-    target: u32,
-) -> usize
-    ensures { λ r. ⌜ Right reference target (now (out .entry)) (told (length (now (out .entry))) r) (now (out .exit)) ⌝ }
-{
-    let refused = excess(reference, target, out.len());
-    let mut n: usize = 0;
-    let mut bdiv = start(refused);
-    while bdiv <= uart_candidate::LAST {
-        let pair = record_at(reference, target, bdiv);
-        if pair.cd != 0 {
-            out[n] = pair;
-            n += 1;
-        }
-        bdiv += 1;
-    }
-    n + refused
 }

@@ -1,5 +1,5 @@
--- `uart_list::viable_baud_divisors` meets its contract: a walk of its MIR, by hand. Of the functions that it calls the proof knows only that they meet their contracts; what follows
--- from those, over lists and numbers, is `Filling.antt`. Before the turn at k the pairs below k are written, and nothing after them.
+-- `archive::uart_records::ogr_uart_list` meets its contract: a walk of its MIR, by hand. Of the functions that it calls the proof knows only that they meet their contracts; what follows
+-- from those, over lists and numbers, is `Filling.antt` of uart_list. Before the turn at k the pairs below k are written, and nothing after them.
 use native.Mathlib.Omega.{arith}
 use mathlib.Core.Path.{_≡_, refl, sym, ap, subst, _∙_}
 use mathlib.Core.Bool.{Bool, true}
@@ -34,7 +34,7 @@ use denote.RattleType.{owns}
 use denote.Shadow.{pureI}
 use denote.Laws.{Is, shows}
 use denote.Plain.{uint-makes, uint-vals, uint-tells, uint-lawful}
-use denote.Builtin.{u32, usize}
+use denote.Builtin.{u32, u64, usize}
 use denote.Ref.{RefT}
 use denote.Slice.{sliceVal, MutSlice, Room, heres, codedHoleys, at-slice, slice-vals, mut-slice-tells}
 use denote.Lend.{Held}
@@ -56,26 +56,31 @@ use Rattle.uart_candidate.specs.Candidate.{Viable}
 use Rattle.uart_candidate.specs.declared.BaudDivisors.{BaudDivisors}
 use Rattle.uart_candidate.proofs.BaudDivisors as T
 use Rattle.uart_candidate.proofs.BaudDivisors.Laws as T′
-use Rattle.uart_list.specs.Listing.{Right, told}
 use Rattle.uart_list.specs.Turns.{none, Slot, real, empty, Excess, Start}
 use Rattle.uart_list.proofs.Filling.{over, over-length, over-more, Plan, Reached, Written, passes, writes, finished, chosen, some-cd}
 use Rattle.uart_list.proofs.excess as excess′
 use Rattle.uart_list.proofs.excess.Symbol as excess-def
 use Rattle.uart_list.proofs.excess.Symbol.{name as #uart_list·excess}
 use Rattle.uart_list.proofs.excess.Met as excess-thm
 use Rattle.uart_list.proofs.start as start′
 use Rattle.uart_list.proofs.start.Symbol as start-def
 use Rattle.uart_list.proofs.start.Symbol.{name as #uart_list·start}
 use Rattle.uart_list.proofs.start.Met as start-thm
 use Rattle.uart_list.proofs.record_at as record-at′
 use Rattle.uart_list.proofs.record_at.Symbol as record-at-def
 use Rattle.uart_list.proofs.record_at.Symbol.{name as #uart_list·record-at}
 use Rattle.uart_list.proofs.record_at.Met as record-at-thm
-use Rattle.uart_list.proofs.viable_baud_divisors.Key.{name as #uart_list·viable-baud-divisors}
-use Rattle.uart_list.proofs.viable_baud_divisors as list′
-use Rattle.uart_list.proofs.viable_baud_divisors.Statement as stated
-use Rattle.uart_list.proofs.viable_baud_divisors.Code as code
-use Rattle.uart_list.proofs.viable_baud_divisors.Code.Mir as mir′
+use Rattle.archive.specs.Listed.{ListHanded, Coded}
+use Rattle.archive.proofs.Listed.{hands}
+use Rattle.archive.proofs.uart_records.list_code as list-code′
+use Rattle.archive.proofs.uart_records.list_code.Symbol as list-code-def
+use Rattle.archive.proofs.uart_records.list_code.Symbol.{name as #archive·uart_records·list-code}
+use Rattle.archive.proofs.uart_records.list_code.Met as list-code-thm
+use Rattle.archive.proofs.uart_records.ogr_uart_list.Key.{name as #archive·uart_records·ogr-uart-list}
+use Rattle.archive.proofs.uart_records.ogr_uart_list as list′
+use Rattle.archive.proofs.uart_records.ogr_uart_list.Statement as stated
+use Rattle.archive.proofs.uart_records.ogr_uart_list.Code as code
+use Rattle.archive.proofs.uart_records.ogr_uart_list.Code.Mir as mir′
 
 -- ---- plain facts
 scaled : (i n : ℕ) → i < n → Room T.the-row n → i * 8 < 2 ^ 64
@@ -142,7 +147,7 @@ abbrev ty : ℕ → Ty
 ty k = tyOf (code.function .locals) k
 
 abbrev stayed : Stays (list′.ended .signature .params) (list′.ended .kept)
-stayed = (stay-slice (0 ∷ []) tt (plain (λ _. T.the-row)), (stay-none (λ _. u32) Exit.yes, (stay-none (λ _. u32) Exit.yes, tt)))
+stayed = (stay-none (λ _. u32) Exit.yes, (stay-none (λ _. u32) Exit.yes, (stay-slice (0 ∷ []) tt (plain (λ _. T.the-row)), tt)))
 
 -- ---- what the callees promise
 module _ {M : Type 1} (𝓤 : URA M) (H : Heap 𝓤) (A : Atoms 𝓤) (at-mem : Memory → SProp 𝓤) (run : Routine → Fun 𝓤) where
@@ -164,36 +169,43 @@ module _ {M : Type 1} (𝓤 : URA M) (H : Heap 𝓤) (A : Atoms 𝓤) (at-mem : 
   record-of : (r t k : ℕ) (p : BaudDivisors) → ent 𝓤 (ensured 𝓤 H A record-at′.ended (record-at′.clauses 𝓤 H A at-mem run) tt (r, (t, (k, tt))) tt p) (fact 𝓤 (Slot (ofWhole r) (ofWhole t) k p))
   record-of r t k p = exE 𝓤 _ (λ ws. snd∗ 𝓤 (sem 𝓤 H A (lasts record-at′.ended tt (r, (t, (k, tt))) ws)) (fact 𝓤 (Slot (ofWhole r) (ofWhole t) k p)))
 
+  abbrev Codes : Contract 𝓤
+  Codes = tripleOf 𝓤 H A list-code′.signature (list-code′.spec 𝓤 H A at-mem run)
+
+  code-of : (n m c : ℕ) → ent 𝓤 (ensured 𝓤 H A list-code′.ended (list-code′.clauses 𝓤 H A at-mem run) tt (n, (m, tt)) tt c) (fact 𝓤 (Coded n m c))
+  code-of n m c = exE 𝓤 _ (λ ws. snd∗ 𝓤 (sem 𝓤 H A (lasts list-code′.ended tt (n, (m, tt)) ws)) (fact 𝓤 (Coded n m c)))
+
 module _ {M : Type 1} (𝓤 : URA M) (H : Heap 𝓤) (A : Atoms 𝓤) (W : Given 𝓤 H A) (at-mem : Memory → SProp 𝓤) (run : Routine → Fun 𝓤) (κ : Lft) (q : Share) (b o : ℕ) (γ : GName) (ys : List BaudDivisors) (r t : ℕ)
     (gr : r < 2 ^ 32) (gt : t < 2 ^ 32) (room : Room T.the-row (length ys)) where
   abbrev Arg : Type 0
-  Arg = RefT (List BaudDivisors) × (ℕ × (ℕ × Unit {0}))
+  Arg = ℕ × (ℕ × (RefT (List BaudDivisors) × Unit {0}))
 
   abbrev args : Arg
-  args = (record { ptr = (b, o); name = γ; now = ys }, (r, (t, tt)))
+  args = (r, (t, (record { ptr = (b, o); name = γ; now = ys }, tt)))
 
   abbrev at : List Val × (List Val × (List Val × Unit {0}))
-  at = (sliceVal (b, o) (length ys) ∷ [], (vint w32 r ∷ [], (vint w32 t ∷ [], tt)))
+  at = (vint w32 r ∷ [], (vint w32 t ∷ [], (sliceVal (b, o) (length ys) ∷ [], tt)))
 
   abbrev Post : Val → SProp 𝓤
   Post = walkOf 𝓤 H A list′.ended stayed (list′.clauses 𝓤 H A at-mem run) .post (((κ, tt), (q, tt), tt, args, at), tt)
 
   abbrev kept : Fml
-  kept = fsep (u32 .own r (vint w32 r ∷ [])) (fsep (u32 .own t (vint w32 t ∷ [])) ftrue)
+  kept = fsep (u32 .own r (vint w32 r ∷ [])) (u32 .own t (vint w32 t ∷ []))
 
   abbrev had : List BaudDivisors → List (Item 𝓤)
   had zs = ‵ (fobs γ (codedHoleys T.the-row .code (heres T.the-row zs))) ∷ ‵ (fbor κ (Held T.the-row (length zs) b o γ)) ∷ ‵ (flft κ q) ∷ ‵ kept ∷ []
 
-  exits : (n : ℕ) (zs : List BaudDivisors) → n < 2 ^ 64 → Right r t ys (told (length ys) n) zs → length zs ≡ length ys → ent 𝓤 (⋆ 𝓤 H A (had zs)) (Post (vint w64 n))
-  exits n zs gn e len =
+  exits : (c : ℕ) (zs : List BaudDivisors) → c < 2 ^ 64 → ListHanded r t ys c zs → length zs ≡ length ys → ent 𝓤 (⋆ 𝓤 H A (had zs)) (Post (vint w64 c))
+  exits c zs gc e len =
       qed W (had zs) ∵
-      suffices ! _ (ends-at 𝓤 H A list′.ended stayed (list′.clauses 𝓤 H A at-mem run) W (((κ, tt), (q, tt), tt, args, at), tt) (vint w64 n) n (zs, (tt, (tt, tt))) (len, (tt, (tt, tt)))) $ says ! e $
+      suffices ! _ (ends-at 𝓤 H A list′.ended stayed (list′.clauses 𝓤 H A at-mem run) W (((κ, tt), (q, tt), tt, args, at), tt) (vint w64 c) c (tt, (tt, (zs, tt))) (tt, (tt, (len, tt)))) $ says ! e $
       nothing ! $ move ! (3 ∷ 0 ∷ []) $ join ! $
-      frame ! $ fjoin ! $ pureI ! (at-slice T.the-row (record { ptr = (b, o); name = γ; now = zs }) (at .0)) (tt, (tt, tt)) (ap (λ (m : ℕ). sliceVal (b, o) m ∷ []) (sym len), subst (Room T.the-row) (sym len) room) $ fjoin ! $ fjoin ! $ frame ! $
-      owned ! usize (Is usize) (uint-makes 𝓤 H A W w64) n _ (refl, gn) $ done !
+      frame ! $ fjoin ! $ pureI ! (at-slice T.the-row (record { ptr = (b, o); name = γ; now = zs }) (at .1 .1 .0)) (tt, (tt, tt)) (ap (λ (m : ℕ). sliceVal (b, o) m ∷ []) (sym len), subst (Room T.the-row) (sym len) room) $ fjoin ! $
+      nothing ! $ move ! (1 ∷ []) $ fjoin ! $ move ! (1 ∷ []) $ fsplit ! $ move ! (1 ∷ 2 ∷ []) $ fjoin ! $ move ! (1 ∷ []) $ fjoin ! $ frame ! $
+      owned ! u64 (Is u64) (uint-makes 𝓤 H A W w64) c _ (refl, gc) $ done !
 
   -- ---- the loop, with what is to be written known
-  module _ (𝓣 : Tables 𝓤 H) (fm : FmC 𝓤 H (W .laws) (𝓣 .C)) (known : Triple 𝓤 (𝓣 .C #uart_list·record-at) (Records 𝓤 H A at-mem run))
+  module _ (𝓣 : Tables 𝓤 H) (fm : FmC 𝓤 H (W .laws) (𝓣 .C)) (known : Triple 𝓤 (𝓣 .C #uart_list·record-at) (Records 𝓤 H A at-mem run)) (codes : Triple 𝓤 (𝓣 .C #archive·uart_records·list-code) (Codes 𝓤 H A at-mem run))
       (m : ℕ) (gm : m < 2 ^ 64) (ws : List BaudDivisors) (plan : Plan r t ys m ws) (l₀ l₁ l₂ l₃ l₄ l₅ l₆ l₇ l₈ l₉ l₁₀ l₁₁ : ℕ) where
     abbrev C : Calls 𝓤 H
     C = 𝓣 .C
@@ -220,13 +232,13 @@ module _ {M : Type 1} (𝓤 : URA M) (H : Heap 𝓤) (A : Atoms 𝓤) (W : Given
     zs-length : (x : Turn) → length (zs x) ≡ length ys
     zs-length x = over-length ws ys (x .1) (x .2 .within) (plan .room)
 
-    -- [obs; the borrow; the token; the numbers' own; _11; …; _10; …; _9; …; _8; …; pair; …; bdiv; …; n; …; refused; …; target; …; reference; …; out; …; room for _0; …]
+    -- [obs; the borrow; the token; the numbers' own; _11; …; _10; …; _9; …; _8; …; pair; …; bdiv; …; n; …; too_many; …; records; …; baud; …; reference; …; room for _0; …]
     abbrev Now : Turn → Item 𝓤 → Item 𝓤 → List (Item 𝓤)
     Now x flag record′ = ‵ (fobs γ (codedHoleys T.the-row .code (heres T.the-row (zs x)))) ∷ ‵ (fbor κ (Held T.the-row (length (zs x)) b o γ)) ∷ ‵ (flft κ q) ∷ ‵ kept
         ∷ ‵ (froom (ty 11) l₁₁ 0) ∷ ‵ (fdies (ty 11) l₁₁) ∷ ‵ (froom (ty 10) l₁₀ 0) ∷ ‵ (fdies (ty 10) l₁₀) ∷ flag ∷ ‵ (fdies (ty 9) l₉) ∷ ‵ (froom (ty 8) l₈ 0) ∷ ‵ (fdies (ty 8) l₈)
         ∷ record′ ∷ ‵ (fdies (ty 7) l₇) ∷ ‵ (fat fullShare (ty 6) l₆ 0 (vint w32 (x .0))) ∷ ‵ (fdies (ty 6) l₆) ∷ ‵ (fat fullShare (ty 5) l₅ 0 (vint w64 (x .1))) ∷ ‵ (fdies (ty 5) l₅)
-        ∷ ‵ (fat fullShare (ty 4) l₄ 0 (vint w64 m)) ∷ ‵ (fdies (ty 4) l₄) ∷ ‵ (fat fullShare (ty 3) l₃ 0 (vint w32 t)) ∷ ‵ (fdies (ty 3) l₃)
-        ∷ ‵ (fat fullShare (ty 2) l₂ 0 (vint w32 r)) ∷ ‵ (fdies (ty 2) l₂) ∷ ‵ (fat fullShare (ty 1) l₁ 0 (sliceVal (b, o) (length ys))) ∷ ‵ (fdies (ty 1) l₁) ∷ ‵ (froom (ty 0) l₀ 0) ∷ ‵ (fdies (ty 0) l₀) ∷ []
+        ∷ ‵ (fat fullShare (ty 4) l₄ 0 (vint w64 m)) ∷ ‵ (fdies (ty 4) l₄) ∷ ‵ (fat fullShare (ty 3) l₃ 0 (sliceVal (b, o) (length ys))) ∷ ‵ (fdies (ty 3) l₃)
+        ∷ ‵ (fat fullShare (ty 2) l₂ 0 (vint w32 t)) ∷ ‵ (fdies (ty 2) l₂) ∷ ‵ (fat fullShare (ty 1) l₁ 0 (vint w32 r)) ∷ ‵ (fdies (ty 1) l₁) ∷ ‵ (froom (ty 0) l₀ 0) ∷ ‵ (fdies (ty 0) l₀) ∷ []
 
     abbrev At : Turn → List (Item 𝓤)
     At x = Now x (‵ (froom (ty 9) l₉ 0)) (‵ (froom (ty 7) l₇ 0))
@@ -254,10 +266,10 @@ module _ {M : Type 1} (𝓤 : URA M) (H : Heap 𝓤) (A : Atoms 𝓤) (W : Given
         rewrite ! 8 (λ (z : Bool). ‵ (fat fullShare (ty 9) l₉ 0 (vbool z))) (some-cd (v .candidate .not-zero)) refl $
         first ! $ branches ! (load ! (from ! (stop !)) (look ! 8 refl)) (λ _.
         assigns ! (bin ! (load ! (from ! (stop !)) (look ! 16 refl)) (lit ! tt) (record { fits = offset })) (from ! (stop !)) (init ! 6 refl (tt, record { fits = offset })) $
-        assigns ! (bin ! (load ! (from ! (fld ! refl (stop !))) (look-in ! 24 (sub ! 0 refl (whole !)))) (load ! (from ! (stop !)) (look ! 6 refl)) tt) (from ! (stop !)) (init ! 4 refl (tt, tt)) $
+        assigns ! (bin ! (load ! (from ! (fld ! refl (stop !))) (look-in ! 20 (sub ! 0 refl (whole !)))) (load ! (from ! (stop !)) (look ! 6 refl)) tt) (from ! (stop !)) (init ! 4 refl (tt, tt)) $
         rewrite ! 4 (λ (a : ℕ). ‵ (fat fullShare tyPtr l₁₁ 0 (vptr b a))) (sym (place-is 8 o (x .1))) refl $
         opens-slice ! tt T.the-row (zs x) b o $ elem-out ! T.the-row (Is T.the-row) (shows 𝓤 H A T.the-row) (LL.vals T.the-type T′.the-laws) (LL.tells T.the-type T′.the-laws) fullShare (zs x) (x .1) none b o in-reach (λ _.
-        -- [out[n]; what it owns; the others; the open borrow; obs; auth; the numbers' own; _11; …; _10; …; _9; …; _8; …; pair; …]
+        -- [records[n]; what it owns; the others; the open borrow; obs; auth; the numbers' own; _11; …; _10; …; _9; …; _8; …; pair; …]
         assigns ! (of-opd ! (load ! (from ! (stop !)) (look ! 15 refl))) (from ! (hop ! (look ! 7 refl) (stop !))) (store-raw ! 0 refl (LL.lawful T.the-type T′.the-laws 𝓤 H A W .typed p _ g .0)) $
         move ! (1 ∷ []) $ drop ! $ owned ! T.the-row (Is T.the-row) (LL.makes T.the-type T′.the-plain 𝓤 H A) p _ g $ move ! (1 ∷ 0 ∷ []) $ elem-put ! T.the-row fullShare (zs x) (x .1) p (mach p ∷ []) b o in-reach $
         closes-slice ! tt T.the-row (zs x) (set (zs x) (x .1) p) (length-set (zs x) (x .1) p) b o $
@@ -308,7 +320,7 @@ module _ {M : Type 1} (𝓤 : URA M) (H : Heap 𝓤) (A : Atoms 𝓤) (W : Given
         stays ! (load ! (from ! (stop !)) (look ! 8 refl)) $
         nothing ! $ owned ! u32 (Is u32) (uint-makes 𝓤 H A W w32) (x .0) _ (refl, fits) $ fjoin ! $ owned ! u32 (Is u32) (uint-makes 𝓤 H A W w32) t _ (refl, gt) $ fjoin ! $ owned ! u32 (Is u32) (uint-makes 𝓤 H A W w32) r _ (refl, gr) $ fjoin ! $ nothing ! $
         use2 W (raw (Records 𝓤 H A at-mem run .pre (to-record x))) (goes-record x) $
-        calls-at ! fm (Records 𝓤 H A at-mem run) known (to-record x) (and-then ! (load ! (from ! (stop !)) (look ! 23 refl)) (and-then ! (load ! (from ! (stop !)) (look ! 21 refl)) (and-then ! (load ! (from ! (stop !)) (look ! 15 refl)) (no-more !)))) (λ v.
+        calls-at ! fm (Records 𝓤 H A at-mem run) known (to-record x) (and-then ! (load ! (from ! (stop !)) (look ! 25 refl)) (and-then ! (load ! (from ! (stop !)) (look ! 23 refl)) (and-then ! (load ! (from ! (stop !)) (look ! 15 refl)) (no-more !)))) (λ v.
         use1 W (later (some (λ (p : BaudDivisors). (‵ ftrue ⊛ ‵ (T.the-row .own p (v ∷ []))) ⊛ raw (ensured 𝓤 H A record-at′.ended (record-at′.clauses 𝓤 H A at-mem run) tt (r, (t, (x .0, tt))) tt p)))) (id⊢ 𝓤 _) $ await ! tt $ pick ! (λ p.
         split ! $ move ! (1 ∷ []) $ use1 W (raw (fact 𝓤 (Slot (ofWhole r) (ofWhole t) (x .0) p))) (record-of 𝓤 H A at-mem run r t (x .0) p) $ heard ! (Slot (ofWhole r) (ofWhole t) (x .0) p) (λ slot. split ! $ drop ! $
         peeks ! T.the-row (Is T.the-row) (shows 𝓤 H A T.the-row) p (v ∷ []) (λ is.
@@ -319,19 +331,35 @@ module _ {M : Type 1} (𝓤 : URA M) (H : Heap 𝓤) (A : Atoms 𝓤) (W : Given
         fits : x .0 < 2 ^ 32
         fits = let s = small (x .0) h in omega arith
 
+    abbrev to-code : ℕ → Codes 𝓤 H A at-mem run .Ghost
+    to-code n = ((tt, tt, tt, (n, (m, tt)), (vint w64 n ∷ [], (vint w64 m ∷ [], tt))), tt)
+
+    abbrev counts : ℕ → Fml
+    counts n = owns (usize ∷ usize ∷ []) (n, (m, tt)) (vint w64 n ∷ [], (vint w64 m ∷ [], tt))
+
+    goes-code : (n : ℕ) → ent 𝓤 (sep 𝓤 (sem 𝓤 H A ftrue) (sem 𝓤 H A (counts n))) (Codes 𝓤 H A at-mem run .pre (to-code n))
+    goes-code n = qed W (‵ ftrue ∷ ‵ (counts n) ∷ []) ∵ join ! $ frame ! $ done !
+
     ends : (x : Turn) → LAST < x .0 → Goal-at x
     unfolding afterTurn
     ends x past =
         assigns ! (bin ! (load ! (from ! (stop !)) (look ! 14 refl)) (lit ! tt) tt) (from ! (stop !)) (init ! 8 refl (tt, tt)) $
         rewrite ! 8 (λ (z : Bool). ‵ (fat fullShare (ty 9) l₉ 0 (vbool z))) (lt-leb (x .0) LAST past) refl $
         leaves-loop ! (load ! (from ! (stop !)) (look ! 8 refl)) $ exec ! C Λ En rest (atRet En Post) $
-        assigns ! (bin ! (load ! (from ! (stop !)) (look ! 16 refl)) (load ! (from ! (stop !)) (look ! 18 refl)) (record { fits = sum })) (from ! (stop !)) (init ! 26 refl (tt, record { fits = sum })) $
+        nothing ! $ owned ! usize (Is usize) (uint-makes 𝓤 H A W w64) m _ (refl, gm) $ fjoin ! $ owned ! usize (Is usize) (uint-makes 𝓤 H A W w64) (x .1) _ (refl, fits) $ fjoin ! $ nothing ! $
+        use2 W (raw (Codes 𝓤 H A at-mem run .pre (to-code (x .1)))) (goes-code (x .1)) $
+        calls-at ! fm (Codes 𝓤 H A at-mem run) codes (to-code (x .1)) (and-then ! (load ! (from ! (stop !)) (look ! 17 refl)) (and-then ! (load ! (from ! (stop !)) (look ! 19 refl)) (no-more !))) (λ v.
+        use1 W (later (some (λ (c : ℕ). (‵ ftrue ⊛ ‵ (u64 .own c (v ∷ []))) ⊛ raw (ensured 𝓤 H A list-code′.ended (list-code′.clauses 𝓤 H A at-mem run) tt (x .1, (m, tt)) tt c)))) (id⊢ 𝓤 _) $ await ! tt $ pick ! (λ c.
+        split ! $ move ! (1 ∷ []) $ use1 W (raw (fact 𝓤 (Coded (x .1) m c))) (code-of 𝓤 H A at-mem run (x .1) m c) $ heard ! (Coded (x .1) m c) (λ coded. split ! $ drop ! $
+        peeks ! u64 (Is u64) (shows 𝓤 H A u64) c (v ∷ []) (λ is.
+        land ! (from ! (stop !)) (init ! 27 refl (uint-lawful 𝓤 H A W w64 .typed c _ is .0)) $ drop ! $
+        rewrite ! 26 (λ (u : Val). ‵ (fat fullShare (ty 0) l₀ 0 u)) (ap only (uint-tells w64 c (v ∷ []) is)) refl $
         returns ! (look ! 26 refl) $ forget ! 8 refl $ forget ! 14 refl $ forget ! 16 refl $ forget ! 18 refl $ forget ! 20 refl $ forget ! 22 refl $ forget ! 24 refl $ forget ! 26 refl $
         move ! (26 ∷ 27 ∷ []) $ free1 ! $ move ! (24 ∷ 25 ∷ []) $ free1 ! $ move ! (22 ∷ 23 ∷ []) $ free1 ! $ move ! (20 ∷ 21 ∷ []) $ free1 ! $ move ! (18 ∷ 19 ∷ []) $ free1 ! $ move ! (16 ∷ 17 ∷ []) $ free1 ! $ move ! (14 ∷ 15 ∷ []) $ free1 ! $ move ! (12 ∷ 13 ∷ []) $ free1 ! $ move ! (10 ∷ 11 ∷ []) $ free1 ! $ move ! (8 ∷ 9 ∷ []) $ free1 ! $ move ! (6 ∷ 7 ∷ []) $ free1 ! $ move ! (4 ∷ 5 ∷ []) $ free1 ! $ free0 ! $
-        by ! (exits (x .1 + m) (zs x) sum (subst (λ (k : ℕ). Right r t ys (told (length ys) (k + m)) (over ws k ys)) (sym (finished (x .2) past)) (plan .right)) (zs-length x))
+        by ! (exits c (zs x) (is .1) (hands plan (finished (x .2) past) coded) (zs-length x))))))
       where
-        sum : x .1 + m < 2 ^ 64
-        sum = subst (λ (k : ℕ). k + m < 2 ^ 64) (sym (finished (x .2) past)) (plan .sum gm (room .0))
+        fits : x .1 < 2 ^ 64
+        fits = lt-of-le-of-lt (x .2 .within) (lt-of-le-of-lt (plan .room) (room .0))
 
     turns : (x : Turn) → Goal-at x
     turns x = ⊎-elim (more-turns x) (ends x) (le-or-lt (x .0) LAST)
@@ -355,18 +383,18 @@ module _ {M : Type 1} (𝓤 : URA M) (H : Heap 𝓤) (A : Atoms 𝓤) (W : Given
   goes-start : (m : ℕ) → ent 𝓤 (sep 𝓤 (sem 𝓤 H A ftrue) (sem 𝓤 H A (owns (usize ∷ []) (m, tt) (vint w64 m ∷ [], tt)))) (Starts 𝓤 H A at-mem run .pre (to-start m))
   goes-start m = qed W (‵ ftrue ∷ ‵ (owns (usize ∷ []) (m, tt) (vint w64 m ∷ [], tt)) ∷ []) ∵ join ! $ frame ! $ done !
 
-  walk : (𝓣 : Tables 𝓤 H) → FmC 𝓤 H (W .laws) (𝓣 .C) → Triple 𝓤 (𝓣 .C #uart_list·excess) (Exceeds 𝓤 H A at-mem run) → Triple 𝓤 (𝓣 .C #uart_list·start) (Starts 𝓤 H A at-mem run) → Triple 𝓤 (𝓣 .C #uart_list·record-at) (Records 𝓤 H A at-mem run)
-      → ent 𝓤 (onEntry 𝓤 H A list′.signature (κ, tt) (q, tt) args at) (WpFn 𝓤 H (𝓣 .C) (𝓣 .Λ) code.function (sliceVal (b, o) (length ys) ∷ vint w32 r ∷ vint w32 t ∷ []) Post)
-  walk 𝓣 fm exceeds starts records =
-      qed W ((‵ (flft κ q) ⊛ ‵ ftrue) ∷ ‵ (owns (MutSlice (named 0) κ T.the-row ∷ u32 ∷ u32 ∷ []) args at) ∷ []) ∵ enter ! (𝓣 .C) (𝓣 .Λ) code.function (sliceVal (b, o) (length ys) ∷ vint w32 r ∷ vint w32 t ∷ []) _ $
+  walk : (𝓣 : Tables 𝓤 H) → FmC 𝓤 H (W .laws) (𝓣 .C) → Triple 𝓤 (𝓣 .C #uart_list·excess) (Exceeds 𝓤 H A at-mem run) → Triple 𝓤 (𝓣 .C #uart_list·start) (Starts 𝓤 H A at-mem run) → Triple 𝓤 (𝓣 .C #uart_list·record-at) (Records 𝓤 H A at-mem run) → Triple 𝓤 (𝓣 .C #archive·uart_records·list-code) (Codes 𝓤 H A at-mem run)
+      → ent 𝓤 (onEntry 𝓤 H A list′.signature (κ, tt) (q, tt) args at) (WpFn 𝓤 H (𝓣 .C) (𝓣 .Λ) code.function (vint w32 r ∷ vint w32 t ∷ sliceVal (b, o) (length ys) ∷ []) Post)
+  walk 𝓣 fm exceeds starts records codes =
+      qed W ((‵ (flft κ q) ⊛ ‵ ftrue) ∷ ‵ (owns (u32 ∷ u32 ∷ MutSlice (named 0) κ T.the-row ∷ []) args at) ∷ []) ∵ enter ! (𝓣 .C) (𝓣 .Λ) code.function (vint w32 r ∷ vint w32 t ∷ sliceVal (b, o) (length ys) ∷ []) _ $
       alloc1 ! (λ l₀. alloc1 ! (λ l₁. alloc1 ! (λ l₂. alloc1 ! (λ l₃. alloc1 ! (λ l₄. alloc1 ! (λ l₅. alloc1 ! (λ l₆. alloc1 ! (λ l₇. alloc1 ! (λ l₈. alloc1 ! (λ l₉. alloc1 ! (λ l₁₀. alloc1 ! (λ l₁₁. alloc0 ! $ params1 ! $
-      pass1 ! (init ! 20 refl (tt, (tt, (record { fits = room .0 }, tt)))) $ pass1 ! (init ! 18 refl (tt, record { fits = gr })) $ pass1 ! (init ! 16 refl (tt, record { fits = gt })) $ pass0 ! $
-      move ! (25 ∷ []) $ fsplit ! $ fsplit ! $ move ! (1 ∷ []) $ fsplit ! $ move ! (28 ∷ []) $ split ! $ move ! (2 ∷ 3 ∷ 0 ∷ []) $
-      keep ! (0 ∷ 1 ∷ 2 ∷ 5 ∷ 6 ∷ 7 ∷ 8 ∷ 9 ∷ 10 ∷ 11 ∷ 12 ∷ 13 ∷ 14 ∷ 15 ∷ 16 ∷ 17 ∷ 18 ∷ 19 ∷ 20 ∷ 21 ∷ 22 ∷ 23 ∷ 24 ∷ 25 ∷ 26 ∷ 27 ∷ 28 ∷ 29 ∷ []) $
-      assigns ! (of-opd ! (load ! (from ! (fld ! refl (stop !))) (look-in ! 24 (sub ! 1 refl (whole !))))) (from ! (stop !)) (init ! 10 refl (tt, record { fits = room .0 })) $
+      pass1 ! (init ! 20 refl (tt, record { fits = gr })) $ pass1 ! (init ! 18 refl (tt, record { fits = gt })) $ pass1 ! (init ! 16 refl (tt, (tt, (record { fits = room .0 }, tt)))) $ pass0 ! $
+      move ! (25 ∷ []) $ fsplit ! $ move ! (1 ∷ []) $ fsplit ! $ move ! (1 ∷ []) $ fsplit ! $ fsplit ! $ move ! (1 ∷ []) $ fsplit ! $ move ! (5 ∷ 4 ∷ []) $ fjoin ! $ move ! (29 ∷ []) $ split ! $ move ! (3 ∷ 4 ∷ 0 ∷ 2 ∷ []) $
+      keep ! (0 ∷ 1 ∷ 2 ∷ 3 ∷ 7 ∷ 8 ∷ 9 ∷ 10 ∷ 11 ∷ 12 ∷ 13 ∷ 14 ∷ 15 ∷ 16 ∷ 17 ∷ 18 ∷ 19 ∷ 20 ∷ 21 ∷ 22 ∷ 23 ∷ 24 ∷ 25 ∷ 26 ∷ 27 ∷ 28 ∷ 29 ∷ 30 ∷ []) $
+      assigns ! (of-opd ! (load ! (from ! (fld ! refl (stop !))) (look-in ! 20 (sub ! 1 refl (whole !))))) (from ! (stop !)) (init ! 10 refl (tt, record { fits = room .0 })) $
       nothing ! $ owned ! usize (Is usize) (uint-makes 𝓤 H A W w64) (length ys) _ (refl, room .0) $ fjoin ! $ owned ! u32 (Is u32) (uint-makes 𝓤 H A W w32) t _ (refl, gt) $ fjoin ! $ owned ! u32 (Is u32) (uint-makes 𝓤 H A W w32) r _ (refl, gr) $ fjoin ! $ nothing ! $
       use2 W (raw (Exceeds 𝓤 H A at-mem run .pre to-excess)) goes-excess $
-      calls-at ! fm (Exceeds 𝓤 H A at-mem run) exceeds to-excess (and-then ! (load ! (from ! (stop !)) (look ! 23 refl)) (and-then ! (load ! (from ! (stop !)) (look ! 21 refl)) (and-then ! (load ! (from ! (stop !)) (look ! 11 refl)) (no-more !)))) (λ u.
+      calls-at ! fm (Exceeds 𝓤 H A at-mem run) exceeds to-excess (and-then ! (load ! (from ! (stop !)) (look ! 25 refl)) (and-then ! (load ! (from ! (stop !)) (look ! 23 refl)) (and-then ! (load ! (from ! (stop !)) (look ! 11 refl)) (no-more !)))) (λ u.
       use1 W (later (some (λ (m : ℕ). (‵ ftrue ⊛ ‵ (usize .own m (u ∷ []))) ⊛ raw (ensured 𝓤 H A excess′.ended (excess′.clauses 𝓤 H A at-mem run) tt (r, (t, (length ys, tt))) tt m)))) (id⊢ 𝓤 _) $ await ! tt $ pick ! (λ m.
       split ! $ move ! (1 ∷ []) $ use1 W (raw (fact 𝓤 (Excess (ofWhole r) (ofWhole t) (length ys) m))) (excess-of 𝓤 H A at-mem run r t (length ys) m) $ heard ! (Excess (ofWhole r) (ofWhole t) (length ys) m) (λ over-by. split ! $ drop ! $
       peeks ! usize (Is usize) (shows 𝓤 H A usize) m (u ∷ []) (λ is.
@@ -382,29 +410,30 @@ module _ {M : Type 1} (𝓤 : URA M) (H : Heap 𝓤) (A : Atoms 𝓤) (W : Given
       rewrite ! 14 (λ (w : Val). ‵ (fat fullShare (ty 6) l₆ 0 w)) (ap only (uint-tells w32 k (v ∷ []) fit)) refl $
       forget ! 10 refl $
       let c = chosen r t ys m k over-by started in
-      begins 𝓣 fm records m (is .1) (c .0) (c .1) l₀ l₁ l₂ l₃ l₄ l₅ l₆ l₇ l₈ l₉ l₁₀ l₁₁ k (c .2)))))))))))))))))))))
+      begins 𝓣 fm records codes m (is .1) (c .0) (c .1) l₀ l₁ l₂ l₃ l₄ l₅ l₆ l₇ l₈ l₉ l₁₀ l₁₁ k (c .2)))))))))))))))))))))
 
 module _ {M : Type 1} (𝓤 : URA M) (H : Heap 𝓤) (A : Atoms 𝓤) (W : Given 𝓤 H A) (at-mem : Memory → SProp 𝓤) (run : Routine → Fun 𝓤) where
-  list-walks : (𝓣 : Tables 𝓤 H) → FmC 𝓤 H (W .laws) (𝓣 .C) → Triple 𝓤 (𝓣 .C #uart_list·excess) (Exceeds 𝓤 H A at-mem run) → Triple 𝓤 (𝓣 .C #uart_list·start) (Starts 𝓤 H A at-mem run) → Triple 𝓤 (𝓣 .C #uart_list·record-at) (Records 𝓤 H A at-mem run)
+  list-walks : (𝓣 : Tables 𝓤 H) → FmC 𝓤 H (W .laws) (𝓣 .C) → Triple 𝓤 (𝓣 .C #uart_list·excess) (Exceeds 𝓤 H A at-mem run) → Triple 𝓤 (𝓣 .C #uart_list·start) (Starts 𝓤 H A at-mem run) → Triple 𝓤 (𝓣 .C #uart_list·record-at) (Records 𝓤 H A at-mem run) → Triple 𝓤 (𝓣 .C #archive·uart_records·list-code) (Codes 𝓤 H A at-mem run)
       → Walks 𝓤 H A list′.ended stayed (WpFn 𝓤 H (𝓣 .C) (𝓣 .Λ) code.function) (list′.clauses 𝓤 H A at-mem run)
-  list-walks 𝓣 fm exceeds starts records = walked 𝓤 H A list′.ended stayed (list′.clauses 𝓤 H A at-mem run) (WpFn 𝓤 H (𝓣 .C) (𝓣 .Λ) code.function)
-      (λ κs. (slice-vals, (uint-vals w32, (uint-vals w32, tt)))) (λ κs. (mut-slice-tells (named 0) (κs .0) T.the-row, (uint-tells w32, (uint-tells w32, tt))))
+  list-walks 𝓣 fm exceeds starts records codes = walked 𝓤 H A list′.ended stayed (list′.clauses 𝓤 H A at-mem run) (WpFn 𝓤 H (𝓣 .C) (𝓣 .Λ) code.function)
+      (λ κs. (uint-vals w32, (uint-vals w32, (slice-vals, tt)))) (λ κs. (uint-tells w32, (uint-tells w32, (mut-slice-tells (named 0) (κs .0) T.the-row, tt))))
       (λ κs qs bounds a g are. via 𝓤 _ (fst∗ 𝓤 _ (emp 𝓤))
-      (walk 𝓤 H A W at-mem run (κs .0) (qs .0) (a .0 .ptr .0) (a .0 .ptr .1) (a .0 .name) (a .0 .now) (a .1 .0) (a .1 .1 .0) (are .1 .0 .1) (are .1 .1 .0 .1) (are .0 .0 .1) 𝓣 fm exceeds starts records))
+      (walk 𝓤 H A W at-mem run (κs .0) (qs .0) (a .1 .1 .0 .ptr .0) (a .1 .1 .0 .ptr .1) (a .1 .1 .0 .name) (a .1 .1 .0 .now) (a .0) (a .1 .0) (are .0 .1) (are .1 .0 .1) (are .1 .1 .0 .0 .1) 𝓣 fm exceeds starts records codes))
 
 list-meets : {M : Type 1} (𝓤 : URA M) (H : Heap 𝓤) (A : Atoms 𝓤) (W : Given 𝓤 H A) (at-mem : Memory → SProp 𝓤) (run : Routine → Fun 𝓤) (𝓣 : Tables 𝓤 H)
-    → Triple 𝓤 (𝓣 .C #uart_list·excess) (Exceeds 𝓤 H A at-mem run) → Triple 𝓤 (𝓣 .C #uart_list·start) (Starts 𝓤 H A at-mem run) → Triple 𝓤 (𝓣 .C #uart_list·record-at) (Records 𝓤 H A at-mem run)
+    → Triple 𝓤 (𝓣 .C #uart_list·excess) (Exceeds 𝓤 H A at-mem run) → Triple 𝓤 (𝓣 .C #uart_list·start) (Starts 𝓤 H A at-mem run) → Triple 𝓤 (𝓣 .C #uart_list·record-at) (Records 𝓤 H A at-mem run) → Triple 𝓤 (𝓣 .C #archive·uart_records·list-code) (Codes 𝓤 H A at-mem run)
     → Meets 𝓤 H A list′.signature (WpFn 𝓤 H (𝓣 .C) (𝓣 .Λ) code.function) (list′.spec 𝓤 H A at-mem run)
-list-meets 𝓤 H A W at-mem run 𝓣 exceeds starts records =
-    walk-meets 𝓤 H A list′.ended stayed W (goes-slice 𝓤 H A W 1 0 tt (plain (λ _. T.the-row)), (goes-none 𝓤 H A W 1 (λ _. u32) Exit.yes (λ κs x f. refl), (goes-none 𝓤 H A W 1 (λ _. u32) Exit.yes (λ κs x f. refl), tt))) (list′.clauses 𝓤 H A at-mem run)
-    (WpFn 𝓤 H (𝓣 .C) (𝓣 .Λ) code.function) (WpFn-mono 𝓤 H (W .laws) 𝓣 code.function) (list-walks 𝓤 H A W at-mem run 𝓣 (fmOf 𝓤 H (W .laws) 𝓣) exceeds starts records)
+list-meets 𝓤 H A W at-mem run 𝓣 exceeds starts records codes =
+    walk-meets 𝓤 H A list′.ended stayed W (goes-none 𝓤 H A W 1 (λ _. u32) Exit.yes (λ κs x f. refl), (goes-none 𝓤 H A W 1 (λ _. u32) Exit.yes (λ κs x f. refl), (goes-slice 𝓤 H A W 1 0 tt (plain (λ _. T.the-row)), tt))) (list′.clauses 𝓤 H A at-mem run)
+    (WpFn 𝓤 H (𝓣 .C) (𝓣 .Λ) code.function) (WpFn-mono 𝓤 H (W .laws) 𝓣 code.function) (list-walks 𝓤 H A W at-mem run 𝓣 (fmOf 𝓤 H (W .laws) 𝓣) exceeds starts records codes)
 
-pub viable-baud-divisors-spec : {M : Type 1} → stated.statement M
+pub ogr-uart-list-spec : {M : Type 1} → stated.statement M
 unfolding code.routine tablesOf
-viable-baud-divisors-spec 𝓤 H 𝓜 𝓖 𝓡 =
+ogr-uart-list-spec 𝓤 H 𝓜 𝓖 𝓡 =
     entered 𝓤 H (tripleOf 𝓤 H (𝓖 .A) list′.signature (list′.spec 𝓤 H (𝓖 .A) (𝓜 .mem) (𝓡 .run)))
-    (tables 𝓤 H 𝓜 𝓡 code.env .C) (tables 𝓤 H 𝓜 𝓡 code.env .Λ) #uart_list·viable-baud-divisors code.function (code.unfolded 𝓤 H 𝓜 𝓡)
+    (tables 𝓤 H 𝓜 𝓡 code.env .C) (tables 𝓤 H 𝓜 𝓡 code.env .Λ) #archive·uart_records·ogr-uart-list code.function (code.unfolded 𝓤 H 𝓜 𝓡)
     (list-meets 𝓤 H (𝓖 .A) (givenOf 𝓤 H 𝓜 𝓖) (𝓜 .mem) (𝓡 .run) (tablesOf 𝓤 H 𝓜 (tables 𝓤 H 𝓜 𝓡 code.env))
     (cited 𝓤 H (Exceeds 𝓤 H (𝓖 .A) (𝓜 .mem) (𝓡 .run)) 𝓜 𝓡 code.env #uart_list·excess excess-def.routine code.calls-uart-list·excess (excess-thm.met 𝓤 H 𝓜 𝓖 𝓡))
     (cited 𝓤 H (Starts 𝓤 H (𝓖 .A) (𝓜 .mem) (𝓡 .run)) 𝓜 𝓡 code.env #uart_list·start start-def.routine code.calls-uart-list·start (start-thm.met 𝓤 H 𝓜 𝓖 𝓡))
-    (cited 𝓤 H (Records 𝓤 H (𝓖 .A) (𝓜 .mem) (𝓡 .run)) 𝓜 𝓡 code.env #uart_list·record-at record-at-def.routine code.calls-uart-list·record-at (record-at-thm.met 𝓤 H 𝓜 𝓖 𝓡)))
+    (cited 𝓤 H (Records 𝓤 H (𝓖 .A) (𝓜 .mem) (𝓡 .run)) 𝓜 𝓡 code.env #uart_list·record-at record-at-def.routine code.calls-uart-list·record-at (record-at-thm.met 𝓤 H 𝓜 𝓖 𝓡))
+    (cited 𝓤 H (Codes 𝓤 H (𝓖 .A) (𝓜 .mem) (𝓡 .run)) 𝓜 𝓡 code.env #archive·uart_records·list-code list-code-def.routine code.calls-archive·uart-records·list-code (list-code-thm.met 𝓤 H 𝓜 𝓖 𝓡)))
