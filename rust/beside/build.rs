@@ -3,8 +3,9 @@ use std::env;
 
 fn main() {
     println!("cargo::rerun-if-changed=build.rs");
-    println!("cargo::rustc-check-cfg=cfg(original, archive)");
+    println!("cargo::rustc-check-cfg=cfg(original, archive, uart_list)");
     let found = [
+        ("DEP_OGRUSPINU_ARCHIVE_UART_LIST", "uart_list"),
         ("DEP_ZYNQ7000_RS_ORIGINAL_AT_HAND", "original"),
         ("DEP_OGRUSPINU_ARCHIVE_AT_HAND", "archive"),
     ];

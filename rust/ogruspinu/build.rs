@@ -1,5 +1,5 @@
-//! Has the static library made from the proved crates, or takes the one that lies there, and links it.
-//! Without one the crate is empty and says what is missing.
+//! Has the static library made from the proved crates, or takes the one that lies there, and links it. Where there is
+//! none the crate is empty, and a warning says what is missing. A crate that is not proved is an error.
 use std::env;
 use std::fs;
 use std::io::ErrorKind;
@@ -12,45 +12,48 @@ const CRATE: &str = "archive";
 const FILE: &str = "target/staticlib/libarchive.a";
 
 fn main() {
-    println!("cargo::rustc-check-cfg=cfg(archive)");
+    println!("cargo::rustc-check-cfg=cfg(archive, uart_list)");
     println!("cargo::rerun-if-changed=build.rs");
     let here = PathBuf::from(env::var_os("CARGO_MANIFEST_DIR").expect("cargo names its folder"));
     let top = here.join("../..");
-    match archive(&top) {
-        Ok(file) => link(&file),
-        Err(what) => println!(
-            "cargo::warning=the static library is not at hand ({what}). What needs it is left out."
+    let (crates, file) = (top.join("crates"), top.join(FILE));
+    watch(&crates);
+    watch(&file);
+    if crates.join(CRATE).is_dir() && changed(&file) <= changed(&crates) {
+        make(&top);
+    }
+    match file.canonicalize() {
+        Ok(file) => {
+            link(&file);
+            tell_of_the_list(&crates);
+        }
+        Err(_) => println!(
+            "cargo::warning=there is no {FILE}: `rt staticlib {CRATE}` makes it at the repository's top, with the \
+             Rattle toolchain on PATH. What needs it is left out."
         ),
+    }
+}
+
+/// The list of viable pairs is left out as long as the library does not export it.
+fn tell_of_the_list(crates: &Path) {
+    let sources = fs::read_dir(crates.join(CRATE).join("src"));
+    let mut texts = sources
+        .into_iter()
+        .flatten()
+        .flatten()
+        .map(|entry| fs::read_to_string(entry.path()).unwrap_or_default());
+    if texts.any(|text| text.contains("fn ogr_uart_list(")) {
+        println!("cargo::rustc-cfg=uart_list");
+        println!("cargo::metadata=uart_list=1");
+    } else {
+        println!(
+            "cargo::warning=the library does not export ogr_uart_list: the list of viable pairs is left out"
+        );
     }
 }
 
 fn watch(path: &Path) {
     println!("cargo::rerun-if-changed={}", path.display());
-}
-
-fn link(file: &Path) {
-    let folder = file.parent().expect("a file has a folder");
-    println!("cargo::rustc-link-search=native={}", folder.display());
-    println!("cargo::rustc-link-lib=static={CRATE}");
-    println!("cargo::rustc-cfg=archive");
-    println!("cargo::metadata=at_hand=1");
-}
-
-/// A file made here is not watched: it is always younger than the run that made it.
-fn archive(top: &Path) -> Result<PathBuf, String> {
-    let (crates, file) = (top.join("crates"), top.join(FILE));
-    watch(&crates);
-    if !crates.join(CRATE).is_dir() {
-        watch(&file);
-    } else if changed(&file) <= changed(&crates) {
-        made(top)?;
-    }
-    if file.is_file() {
-        return file.canonicalize().map_err(|why| why.to_string());
-    }
-    Err(format!(
-        "there is no {FILE}, and no crate crates/{CRATE} that `rt staticlib {CRATE}` could make it from"
-    ))
 }
 
 /// When a file, or the youngest file of a folder, was last written; nothing for what is not there.
@@ -62,22 +65,30 @@ fn changed(path: &Path) -> Option<SystemTime> {
 }
 
 /// Proves and compiles the crate. Without `rt` an archive that lies there is taken as it is.
-fn made(top: &Path) -> Result<(), String> {
+fn make(top: &Path) {
     let command = format!("rt staticlib {CRATE}");
-    match Command::new("rt")
+    let run = Command::new("rt")
         .args(["staticlib", CRATE])
         .current_dir(top)
-        .output()
-    {
-        Ok(done) if done.status.success() => Ok(()),
+        .output();
+    match run {
+        Ok(done) if done.status.success() => {}
         Ok(done) => {
             let said = String::from_utf8_lossy(&done.stdout);
-            Err(format!(
-                "`{command}` failed: {}",
-                said.lines().last().unwrap_or("it said nothing")
-            ))
+            let last = said.lines().last().unwrap_or("it said nothing");
+            println!("cargo::error=`{command}` failed: {last}");
         }
-        Err(why) if why.kind() == ErrorKind::NotFound && top.join(FILE).is_file() => Ok(()),
-        Err(why) => Err(format!("`{command}` cannot be run: {why}")),
+        Err(why) if why.kind() == ErrorKind::NotFound => {
+            println!("cargo::warning=there is no `rt` on PATH: {FILE} is not made anew");
+        }
+        Err(why) => println!("cargo::error=`{command}` cannot be run: {why}"),
     }
+}
+
+fn link(file: &Path) {
+    let folder = file.parent().expect("a file has a folder");
+    println!("cargo::rustc-link-search=native={}", folder.display());
+    println!("cargo::rustc-link-lib=static={CRATE}");
+    println!("cargo::rustc-cfg=archive");
+    println!("cargo::metadata=at_hand=1");
 }

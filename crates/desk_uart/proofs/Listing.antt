@@ -7,7 +7,7 @@ use native.Mathlib.Nat.{le-refl}
 use native.Mathlib.Omega.{arith}
 use lib.Ieee.{Float}
 use lib.ListN.{length, getD}
-use Rattle.refusals.specs.Told.{answered}
+use Rattle.refusals.specs.Told.{Told, answered}
 use Rattle.text.specs.Digits.{decimal}
 use Rattle.text.specs.Put.{Wrote, Put}
 use Rattle.text.proofs.Spelling.{decimal-short}
@@ -19,17 +19,17 @@ use Rattle.uart_candidate.specs.declared.BaudDivisors.{BaudDivisors}
 use Rattle.uart_candidate.specs.declared.Tried.{Tried}
 use Rattle.uart_candidate.specs.declared.Tried.the-variants.{Pair, Skipped}
 use Rattle.uart_list.specs.Listing.{Counts, Viables}
-use Rattle.uart_list.proofs.Laws.{From, put, before as grown, beyond, whole, enough, one-count}
+use Rattle.uart_list.proofs.Laws.{From, put, before as grown, beyond, whole, all, only, enough, one-count}
 use Rattle.desk_words.specs.Numbers.{Only, asked}
 use Rattle.desk_words.specs.declared.numbers.Asked.{Asked}
 use Rattle.desk_words.specs.declared.numbers.Asked.the-variants as Asked
 use Rattle.desk_answers.specs.Answers.{Said}
 use Rattle.desk_answers.specs.Reply.{U32, Says, told}
-use Rattle.desk_uart.specs.Requests.{parted, entries, showList, listed, ListReply}
+use Rattle.desk_uart.specs.Requests.{parted, entries, showList, Listed, listed, ListReply}
 use Rattle.desk_uart.specs.Turns.{entry, Prints}
 
 -- ---- one entry
-pub room-for-pair : {before : List ℕ} {at : ℕ} {middle : List ℕ} {past : ℕ} → Put (32 ∷ []) before at middle past → at + 31 ≤ length before → past + 30 ≤ length middle
+pub room-for-pair : {byte : ℕ} {before : List ℕ} {at : ℕ} {middle : List ℕ} {past : ℕ} → Put (byte ∷ []) before at middle past → at + 31 ≤ length before → past + 30 ≤ length middle
 room-for-pair space room =
     let w = space .fits (omega arith) in
     omega (arith, w .next-is, as-long w)
@@ -122,3 +122,7 @@ list-replied {words} values r only e s =
       right = told values (answered (s .list)) (subst (λ (q : Asked). Only (U32 ∷ U32 ∷ []) words (asked values q)) e only) (listed (s .list) (s .viables));
       said = s .said;
     }
+
+-- one answer to each question
+pub unique : {reference target : ℕ} {a b : Told (List BaudDivisors)} → Listed reference target a → Listed reference target b → a ≡ b
+unique (listed ps v) (listed qs w) = ap answered (only _ _ ps qs (all _ _ v) (all _ _ w))

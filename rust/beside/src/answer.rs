@@ -4,8 +4,10 @@ use std::fmt::Write;
 
 /// Not a refusal but the end of a sequence whose host had no word left to return.
 pub const STARVED: u32 = u32::MAX;
-/// Not a refusal either: lent memory was written that had to stay, or a slice too short was not refused.
+/// Not a refusal either: lent memory was written that had to stay.
 pub const STRAY: u32 = u32::MAX - 1;
+/// Nor this: a row too short was not refused.
+pub const CRAMPED: u32 = u32::MAX - 2;
 /// Refusals that carry a number: a module, the Pll module, the multiplier, a count.
 const CARRYING: [u32; 4] = [2, 3, 5, 9];
 /// Where an evaluation's numbers have the trace clock, and whether it is EMIO's.
@@ -46,7 +48,8 @@ impl Answer {
 
     /// The desk's line.
     pub fn line(&self, subject: Subject) -> String {
-        if subject == Subject::PllSeq && !self.numbers.is_empty() {
+        let amiss = matches!(self.refused, STRAY | CRAMPED);
+        if subject == Subject::PllSeq && !self.numbers.is_empty() && !amiss {
             return self.sequence();
         }
         if self.refused != 0 {
@@ -72,7 +75,11 @@ impl Answer {
     fn refusal(&self) -> String {
         match self.refused {
             STARVED => "starved".to_owned(),
-            STRAY => format!("left lent memory as {:?}", self.numbers),
+            STRAY => format!("wrote where it may not, and left {:x?}", self.numbers),
+            CRAMPED => format!(
+                "did not refuse a row too short, and left {:x?}",
+                self.numbers
+            ),
             number if CARRYING.contains(&number) => format!("refused {number} {}", self.carried),
             number => format!("refused {number}"),
         }

@@ -4,9 +4,12 @@ pub const USAGE: &str = "\
 usage: beside compare  [SEED [COUNT]] [--threads N] [--only SUBJECT]
        beside selftest [SEED [COUNT]] [--threads N]
        beside lists    FOLDER
-       beside bench    [SEED [COUNT]] [--rounds N] [--control]
+       beside bench    [SEED [COUNT]] [--rounds N] [--only SUBJECT] [--control]
+       beside calls    rust|ours [SEED [COUNT]] --only SUBJECT
+       beside subjects
 COUNT is how many random requests each subject gets, or how many inputs each call is timed on.
---control times the original against itself, which shows how much of a ratio is noise.";
+--control times the original against itself, which shows how much of a ratio is noise.
+calls makes the calls of one side and nothing else, for a tool that counts instructions; it prints how many.";
 
 /// The words after the mode.
 pub struct Args {
@@ -44,6 +47,14 @@ impl Args {
         match &self.plain[..] {
             [folder] => Ok(folder),
             _ => Err("one folder is wanted".to_owned()),
+        }
+    }
+
+    /// Takes the word that has to stand first.
+    pub fn side(&mut self) -> Result<String, String> {
+        match self.plain.first() {
+            Some(word) if matches!(word.as_str(), "rust" | "ours") => Ok(self.plain.remove(0)),
+            _ => Err("a side is wanted, rust or ours".to_owned()),
         }
     }
 

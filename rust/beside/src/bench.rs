@@ -1,7 +1,7 @@
 //! Times both sides on the same inputs, alternating, in several rounds.
 use crate::generate::Generator;
 use crate::judge::ruled;
-use crate::request::{SUBJECTS, Subject};
+use crate::request::{Request, Subject};
 use crate::rng::Rng;
 use std::hint::black_box;
 use std::time::{Duration, Instant};
@@ -9,6 +9,9 @@ use std::time::{Duration, Instant};
 /// About how long a side is at work in a round: short, so that whatever else the machine does falls into few of
 /// them and the median does not see it.
 const ROUND: Duration = Duration::from_millis(1);
+
+/// A call on fewer inputs would be timed on these inputs' luck.
+const FEW: usize = 10;
 
 /// Inputs of one call, all of one width, one after the other.
 pub struct Inputs {
@@ -31,14 +34,14 @@ pub struct Pass {
 pub type Timed = fn(Subject, &Inputs) -> Option<Pass>;
 
 impl Inputs {
-    fn new(subject: Subject, seed: u64, count: usize) -> Self {
+    pub fn new(subject: Subject, seed: u64, count: usize) -> Self {
         let generator = Generator::of(subject);
         let rng = Rng::new(seed, subject as u64);
         let drawn = std::iter::repeat_with(|| generator.random(&rng));
         let requests: Vec<Vec<u32>> = drawn
-            .filter(|request| ruled(request).is_none())
+            .filter(|request| ruled(request).is_none() && timed(request))
             .map(|request| request.numbers)
-            .take(count.max(1))
+            .take((count / subject.rarity()).max(FEW))
             .collect();
         Self {
             width: requests[0].len(),
@@ -64,7 +67,8 @@ impl Inputs {
     }
 
     /// The time of one call on each input. Each answer gives one number to a sum, which keeps the calls from
-    /// being optimized away and shows that both sides gave the same.
+    /// being optimized away and shows that both sides gave the same. `count` at the folder's top knows it by name.
+    #[inline(never)]
     pub fn each(&self, call: impl Fn(&[u32]) -> u32) -> Pass {
         let inputs = &self.numbers[self.begin * self.width..][..self.taken * self.width];
         let start = Instant::now();
@@ -81,18 +85,25 @@ impl Inputs {
         }
     }
 
-    fn calls(&self) -> usize {
+    pub fn calls(&self) -> usize {
         self.taken * self.repeats
     }
 }
 
+/// Of sequences those that lock at the first poll, since inputs have to be of one width.
+fn timed(request: &Request) -> bool {
+    let Request { subject, numbers } = request;
+    let at_once = |status: &u32| status >> numbers[0] & 1 == 1;
+    *subject != Subject::PllSeq || numbers.len() == 13 && at_once(&numbers[11])
+}
+
 /// One line for each call: the median ratio, its spread (the middle half and the ends), and both times.
-pub fn run(seed: u64, count: usize, rounds: usize, rust: Timed, ours: Timed) {
+pub fn run(subjects: &[Subject], seed: u64, count: usize, rounds: usize, rust: Timed, ours: Timed) {
     println!(
-        "{:11} {:>7}  {:15}  {:15}  {:>10} {:>10}",
+        "{:15} {:>7}  {:15}  {:15}  {:>10} {:>10}",
         "call", "ratio", "middle half", "all", "Rust ns", "ours ns"
     );
-    for subject in SUBJECTS {
+    for &subject in subjects {
         let inputs = Inputs::new(subject, seed, count);
         let Some(once) = rust(subject, &inputs) else {
             continue;
@@ -103,7 +114,7 @@ pub fn run(seed: u64, count: usize, rounds: usize, rust: Timed, ours: Timed) {
             one_round(round, subject, &inputs, rust, ours)
         };
         let times: Vec<(f64, f64)> = (0..rounds).filter_map(round).collect();
-        println!("{:11} {}", subject.name(), line(&times, inputs.calls()));
+        println!("{:15} {}", subject.name(), line(&times, inputs.calls()));
     }
 }
 

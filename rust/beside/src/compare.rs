@@ -69,7 +69,12 @@ struct Work<'a> {
     found: Mutex<Option<(usize, Request)>>,
 }
 
-pub fn subject(subject: Subject, plan: Plan, ours: &dyn Side) -> Result<Tally, Box<Difference>> {
+pub fn subject(
+    subject: Subject,
+    mut plan: Plan,
+    ours: &dyn Side,
+) -> Result<Tally, Box<Difference>> {
+    plan.count /= subject.rarity();
     let generator = Generator::of(subject);
     let fixed = [generator.edges(), generator.small()].concat();
     let total = fixed.len() + plan.count;

@@ -28,9 +28,7 @@ pub fn judged(request: &Request) -> (Answer, By) {
 pub fn ruled(request: &Request) -> Option<Answer> {
     let n = &request.numbers[..];
     match request.subject {
-        Subject::TwoStage if n[1] == 0 => Some(Answer::refused(6)),
-        Subject::TwoStage if n[2] == 0 => Some(Answer::refused(7)),
-        Subject::TwoStage if n == [u32::MAX, 1, u32::MAX] => Some(Answer::given([1, u32::MAX])),
+        Subject::TwoStage | Subject::TwoStageLarge => two_stage(n),
         Subject::Ttc if n[1] == 0 => Some(Answer::refused(6)),
         Subject::Clocks => image(n[0], request.words()),
         Subject::Gem => image(n[1], request.words()),
@@ -39,6 +37,15 @@ pub fn ruled(request: &Request) -> Option<Answer> {
         Subject::DdrInit => plain_divisors(&n[1..], DDR),
         Subject::PllSeq => sequence(request),
         Subject::Starts => starts(n),
+        _ => None,
+    }
+}
+
+fn two_stage(n: &[u32]) -> Option<Answer> {
+    match *n {
+        [_, 0, _] => Some(Answer::refused(6)),
+        [_, _, 0] => Some(Answer::refused(7)),
+        [u32::MAX, 1, u32::MAX] => Some(Answer::given([1, u32::MAX])),
         _ => None,
     }
 }

@@ -11,7 +11,7 @@ mod modes;
 fn main() -> ExitCode {
     let mut words = std::env::args().skip(1);
     let mode = words.next().unwrap_or_default();
-    let done = args::Args::read(words).and_then(|args| modes::run(&mode, &args));
+    let done = args::Args::read(words).and_then(|args| modes::run(&mode, args));
     done.map_or_else(
         |why| {
             eprintln!("{why}\n{}", args::USAGE);

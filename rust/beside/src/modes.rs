@@ -1,6 +1,6 @@
 //! The driver's modes; each tells whether all went well, or how it was called wrongly.
 use crate::args::Args;
-use beside::bench::Timed;
+use beside::bench::{Inputs, Timed};
 use beside::compare::{Plan, Tally};
 use beside::request::{SUBJECTS, Subject};
 use beside::side::Side;
@@ -10,26 +10,23 @@ const NO_ARCHIVE: &str = "\
 Our static library was not at hand when this was built: there is nothing to set beside the original.
 `rt staticlib archive` at the repository's top makes it; then build again.";
 
-pub fn run(mode: &str, args: &Args) -> Result<bool, String> {
+pub fn run(mode: &str, mut args: Args) -> Result<bool, String> {
     match mode {
         "compare" => {
-            let plan = plan(args, 100_000)?;
-            let subjects = subjects(args)?;
-            Ok(ours().is_none_or(|(ours, _)| compared(&subjects, plan, ours)))
+            let plan = plan(&args, 100_000)?;
+            let subjects = subjects(&args)?;
+            Ok(ours().is_none_or(|ours| compared(&subjects, plan, ours)))
         }
-        "selftest" => Ok(selftest::run(plan(args, 20_000)?)),
+        "selftest" => Ok(selftest::run(plan(&args, 20_000)?)),
         "lists" => written(args.folder()?),
-        "bench" => {
-            let (seed, count) = args.seed_and_count(2_000)?;
-            let ours = if args.control {
-                Some(timed_rust::timed as Timed)
-            } else {
-                ours().map(|(_, timed)| timed)
-            };
-            if let Some(ours) = ours {
-                bench::run(seed, count, args.rounds, timed_rust::timed, ours);
-            }
+        "bench" => timed(&args),
+        "subjects" => {
+            println!("{}", SUBJECTS.map(Subject::name).join("\n"));
             Ok(true)
+        }
+        "calls" => {
+            let side = args.side()?;
+            called(&side, &args)
         }
         _ => Err(format!("no mode `{mode}`")),
     }
@@ -55,25 +52,26 @@ fn subjects(args: &Args) -> Result<Vec<Subject>, String> {
     Ok(chosen)
 }
 
-fn compared(subjects: &[Subject], plan: Plan, ours: &dyn Side) -> bool {
+fn compared(subjects: &[Subject], plan: Plan, ours: Ours) -> bool {
     let mut all = Tally::default();
     for &subject in subjects {
-        match compare::subject(subject, plan, ours) {
+        let name = subject.name();
+        if !(ours.exported)(subject) {
+            println!("{name:15} is not exported: not compared");
+            continue;
+        }
+        match compare::subject(subject, plan, ours.side) {
             Ok(tally) => {
-                println!("{:11} {tally}", subject.name());
+                println!("{name:15} {tally}");
                 all += tally;
             }
             Err(found) => {
-                println!(
-                    "{:11} DIFFERENT\n{}",
-                    subject.name(),
-                    report::difference(&found)
-                );
+                println!("{name:15} DIFFERENT\n{}", report::difference(&found));
                 return false;
             }
         }
     }
-    println!("{:11} {all}", "all");
+    println!("{:15} {all}; differences 0", "all");
     true
 }
 
@@ -85,13 +83,55 @@ fn written(folder: &str) -> Result<bool, String> {
     Ok(true)
 }
 
-/// Our side and its times, if the static library is linked.
-#[cfg(archive)]
-const OURS: Option<(&dyn Side, Timed)> = Some((&beside::ours::Ours, beside::timed_ours::timed));
-#[cfg(not(archive))]
-const OURS: Option<(&dyn Side, Timed)> = None;
+fn timed(args: &Args) -> Result<bool, String> {
+    let (seed, count) = args.seed_and_count(2_000)?;
+    let subjects = subjects(args)?;
+    let rust: Timed = timed_rust::timed;
+    let ours = if args.control {
+        Some(rust)
+    } else {
+        ours().map(|ours| ours.timed)
+    };
+    if let Some(ours) = ours {
+        bench::run(&subjects, seed, count, args.rounds, rust, ours);
+    }
+    Ok(true)
+}
 
-fn ours() -> Option<(&'static dyn Side, Timed)> {
+/// The calls of one side on each input, once.
+fn called(side: &str, args: &Args) -> Result<bool, String> {
+    let (seed, count) = args.seed_and_count(1_000)?;
+    let [subject] = subjects(args)?[..] else {
+        return Err("one subject is wanted, by --only".to_owned());
+    };
+    let timed = match side {
+        "rust" => Some(timed_rust::timed as Timed),
+        _ => ours().map(|ours| ours.timed),
+    };
+    let inputs = Inputs::new(subject, seed, count);
+    let pass = timed.and_then(|timed| timed(subject, &inputs));
+    println!("{}", pass.map_or(0, |_| inputs.calls()));
+    Ok(true)
+}
+
+/// Our side, if the static library is linked.
+#[derive(Clone, Copy)]
+struct Ours {
+    side: &'static dyn Side,
+    timed: Timed,
+    exported: fn(Subject) -> bool,
+}
+
+#[cfg(archive)]
+const OURS: Option<Ours> = Some(Ours {
+    side: &beside::ours::Ours,
+    timed: beside::timed_ours::timed,
+    exported: beside::ours::exported,
+});
+#[cfg(not(archive))]
+const OURS: Option<Ours> = None;
+
+fn ours() -> Option<Ours> {
     if OURS.is_none() {
         println!("{NO_ARCHIVE}");
     }

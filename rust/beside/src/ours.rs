@@ -1,80 +1,96 @@
 //! Our answers, through the static library, with an eye on every lent word.
-use crate::answer::{Answer, STRAY};
-use crate::request::{Request, Start, Subject};
-use crate::side::{Side, UNTOUCHED};
-use ogruspinu::{BaudDivisors, CLOCK_NUMBERS, Plan, Refusal, Told, lent};
+use crate::answer::{Answer, CRAMPED, STARVED, STRAY};
+use crate::request::{Request, Subject};
+use crate::side::Side;
+#[cfg(uart_list)]
+use crate::side::UNTOUCHED;
+use ogruspinu::raw::{self, PllLog, PllPlan, halves};
+#[cfg(uart_list)]
+use ogruspinu::uart::BaudDivisors;
 
 pub struct Ours;
 
 /// What a lent word holds before the call.
 const BLANK: u32 = 0xA5A5_5A5A;
+/// More words than any answer of fixed length has.
+const MOST: usize = 32;
+/// Words of an evaluation.
+const CLOCKS: usize = 26;
 /// Accesses of a sequence that are not reads.
 const WRITES: usize = 7;
+
+/// Whether there is an exported function to ask.
+pub fn exported(subject: Subject) -> bool {
+    subject != Subject::Starts && (cfg!(uart_list) || subject != Subject::UartList)
+}
 
 impl Side for Ours {
     fn answer(&self, request: &Request) -> Answer {
         let n = &request.numbers[..];
         match request.subject {
-            Subject::TwoStage => words::<2>(|out| lent::two_stage(n[0], n[1], n[2], out)),
-            Subject::I2c => words::<2>(|out| lent::i2c_divisors(n[0], n[1], out)),
-            Subject::I2cSpeed => number(ogruspinu::i2c_speed(n[0], n[1] as u8, n[2] as u8)),
-            Subject::Ttc => words::<2>(|out| lent::ttc(n[0], n[1], out)),
-            Subject::PllMul => words::<4>(|out| lent::pll_mul(n[0], out)),
-            Subject::PllTarget => words::<4>(|out| lent::pll_target(n[0], n[1], out)),
-            Subject::Uart => words::<3>(|out| lent::uart_best(n[0], n[1], out)),
-            Subject::UartList => list(n[0], n[1], n[2] as usize),
-            Subject::Clocks => {
-                words::<CLOCK_NUMBERS>(|out| lent::clocks(n[0], request.words(), out))
+            Subject::TwoStage | Subject::TwoStageLarge => {
+                words::<2>(|out| raw::two_stage(n[0], n[1], n[2], out))
             }
-            Subject::Gem => number(ogruspinu::gem(n[0] == 1, n[1], request.words())),
+            Subject::I2c => words::<2>(|out| raw::i2c_divisors(n[0], n[1] == 1, out)),
+            Subject::I2cSpeed => Answer::given([raw::i2c_speed(n[0], n[1] as u8, n[2] as u8)]),
+            Subject::Ttc => words::<2>(|out| raw::ttc(n[0], n[1], out)),
+            Subject::PllMul => words::<4>(|out| raw::pll_mul(n[0], out)),
+            Subject::PllTarget => words::<4>(|out| raw::pll_target(n[0], n[1], out)),
+            Subject::Uart => words::<3>(|out| raw::uart_best(n[0], n[1], out)),
+            #[cfg(uart_list)]
+            Subject::UartList => list(n[0], n[1], n[2] as usize),
+            Subject::Clocks => words::<CLOCKS>(|out| raw::clocks(n[0], request.words(), out)),
+            Subject::Gem => number(raw::gem(n[0] == 1, n[1], request.words())),
             Subject::Update => updated(n[0], n[1], n[2], request.words()),
-            Subject::CpuInit => words::<4>(|out| lent::cpu_init(n[0], n[1], n[2], out)),
-            Subject::DdrInit => words::<2>(|out| lent::ddr_init(n[0], n[1], n[2], out)),
+            Subject::CpuInit => words::<4>(|out| raw::cpu_init(n[0], n[1] == 1, n[2], out)),
+            Subject::DdrInit => words::<2>(|out| raw::ddr_init(n[0], n[1], n[2], out)),
             Subject::PllSeq => sequence(n, request.words()),
-            Subject::Starts => starts(n),
+            #[cfg(not(uart_list))]
+            Subject::UartList => unreachable!("it is not exported"),
+            Subject::Starts => unreachable!("it is not exported"),
         }
     }
 }
 
-fn refusal(why: Refusal) -> Answer {
-    Answer::carrying(why.number, why.carried)
-}
-
-fn stray(lent: &[u32]) -> Answer {
-    let mut answer = Answer::refused(STRAY);
+/// What went wrong, with the lent memory as it was left.
+fn amiss(what: u32, lent: &[u32]) -> Answer {
+    let mut answer = Answer::refused(what);
     answer.numbers = lent.to_vec();
     answer
 }
 
-fn number(told: Told<u32>) -> Answer {
-    told.map_or_else(refusal, |number| Answer::given([number]))
+fn blank(lent: &[u32]) -> bool {
+    lent.iter().all(|&word| word == BLANK)
 }
 
-/// An answer of N words: one word more is lent and must stay, all must stay after a refusal, and one word less
-/// must be refused.
-fn words<const N: usize>(call: impl Fn(&mut [u32]) -> Told<u32>) -> Answer {
-    let mut long = vec![BLANK; N + 1];
-    let told = call(&mut long);
-    let written = if told.is_ok() { N } else { 0 };
-    if long[written..].iter().any(|&word| word != BLANK) {
-        return stray(&long);
+/// An answer of one number, or a refusal.
+fn number(told: u64) -> Answer {
+    match halves(told) {
+        (0, number) => Answer::given([number]),
+        (number, carried) => Answer::carrying(number, carried),
     }
-    let Ok(_) = told else {
-        return told.map_or_else(refusal, |_| stray(&long));
-    };
-    let mut short = vec![BLANK; N - 1];
-    let told = call(&mut short);
-    let needed = Refusal {
-        number: 9,
-        carried: N as u32,
-    };
-    if told != Err(needed) || short.iter().any(|&word| word != BLANK) {
-        return stray(&short);
-    }
-    long.truncate(N);
-    Answer::given(long)
 }
 
+/// An answer of N words: one word less must be refused before all else; one word more is lent and must stay, and all
+/// must stay after a refusal.
+fn words<const N: usize>(call: impl Fn(&mut [u32]) -> u64) -> Answer {
+    let mut lent = [BLANK; MOST];
+    let short = call(&mut lent[..N - 1]);
+    if halves(short) != (9, N as u32) || !blank(&lent) {
+        return amiss(CRAMPED, &lent[..N]);
+    }
+    let told = call(&mut lent[..N + 1]);
+    let written = if told == 0 { N } else { 0 };
+    if !blank(&lent[written..]) {
+        return amiss(STRAY, &lent[..N + 1]);
+    }
+    match told {
+        0 => Answer::given(&lent[..N]),
+        told => number(told),
+    }
+}
+
+#[cfg(uart_list)]
 fn list(reference: u32, baud: u32, room: usize) -> Answer {
     let [cd, bdiv, error] = UNTOUCHED;
     let untouched = BaudDivisors {
@@ -83,63 +99,90 @@ fn list(reference: u32, baud: u32, room: usize) -> Answer {
         error: f32::from_bits(error),
     };
     let mut records = vec![untouched; room + 1];
-    let told = lent::uart_list(reference, baud, &mut records[..room]);
+    let told = raw::uart_list(reference, baud, &mut records[..room]);
     let numbers =
         |record: &BaudDivisors| [record.cd.into(), record.bdiv.into(), record.error.to_bits()];
     let lent: Vec<u32> = records.iter().flat_map(numbers).collect();
     if lent[3 * room..] != UNTOUCHED {
-        return stray(&lent);
+        return amiss(STRAY, &lent);
     }
     let mut answer = number(told);
     answer.numbers.extend(&lent[..3 * room]);
     answer
 }
 
+/// An evaluation's words after one of them was updated; a row too short is refused.
 fn updated(which: u32, hertz: u32, crystal: u32, image: &[u32]) -> Answer {
-    let evaluated = ogruspinu::clocks(crystal, image);
-    evaluated.map_or_else(refusal, |mut numbers| {
-        let told = lent::clocks_update(which, hertz, &mut numbers);
-        told.map_or_else(refusal, |_| Answer::given(numbers))
-    })
+    let mut evaluated = words::<CLOCKS>(|out| raw::clocks(crystal, image, out));
+    if evaluated.refused != 0 {
+        return evaluated;
+    }
+    let before = evaluated.numbers.clone();
+    let short = raw::io_update(which, hertz, &mut evaluated.numbers[..CLOCKS - 1]);
+    if halves(short) != (9, CLOCKS as u32) || evaluated.numbers != before {
+        return amiss(CRAMPED, &evaluated.numbers);
+    }
+    match raw::io_update(which, hertz, &mut evaluated.numbers) {
+        0 => evaluated,
+        told => number(told),
+    }
 }
 
 fn sequence(n: &[u32], reads: &[u32]) -> Answer {
-    let plan = Plan {
-        pll: n[0],
-        bypassed: n[1] == 1,
-        setting: [n[2], n[3], n[4], n[5]],
-        limit: n[6],
+    let plan = plan(n);
+    let most = reads.len() + WRITES;
+    let mut rows = [0; 3].map(|_| vec![BLANK; most]);
+    let told = raw::pll_run(plan, reads, log(&mut rows, [most; 3]));
+    let (end, high) = halves(told);
+    let count = if matches!(end, 0 | 11 | STARVED) {
+        high as usize
+    } else {
+        0
     };
-    let mut log = vec![BLANK; 3 * (reads.len() + WRITES)];
-    let run = ogruspinu::pll_run(&plan, reads, &mut log);
-    let logged = 3 * run.accesses as usize;
-    let rest = log.get(logged..).unwrap_or(&[0]);
-    if rest.iter().any(|&word| word != BLANK) {
-        return stray(&log);
+    let left = |row: &Vec<u32>| row.get(count..).is_some_and(blank);
+    if !rows.iter().all(left) {
+        return amiss(STRAY, &rows.concat());
     }
-    log.truncate(logged);
-    let mut answer = Answer::given(log);
-    answer.refused = run.end;
+    let entry = |i: usize| [rows[0][i], rows[1][i], rows[2][i]];
+    let numbers: Vec<u32> = (0..count).flat_map(entry).collect();
+    if count > 0 && !refuses_short_rows(plan, reads, count) {
+        return amiss(CRAMPED, &numbers);
+    }
+    let mut answer = Answer::carrying(end, if count > 0 { 0 } else { high });
+    answer.numbers = numbers;
     answer
 }
 
-fn starts(numbers: &[u32]) -> Answer {
-    let mut marks = 0;
-    let started = |&number: &u32| {
-        let start = Start::unpacked(number);
-        let plan = Plan {
-            pll: start.pll,
-            bypassed: false,
-            setting: [if start.too_wide { 128 } else { 40 }, 2, 2, 250],
-            limit: if start.no_limit { 0 } else { 1 },
-        };
-        match ogruspinu::pll_start(marks, start.unchecked, &plan) {
-            Ok(after) => {
-                marks = after;
-                0
-            }
-            Err(why) => why.number,
-        }
-    };
-    Answer::given(numbers.iter().map(started).collect::<Vec<u32>>())
+/// Any one row that is shorter than the accesses are many.
+fn refuses_short_rows(plan: PllPlan, reads: &[u32], count: usize) -> bool {
+    (0..3).all(|row| {
+        let mut rows = [0; 3].map(|_| vec![BLANK; count]);
+        let mut room = [count; 3];
+        room[row] -= 1;
+        let told = raw::pll_run(plan, reads, log(&mut rows, room));
+        halves(told) == (9, count as u32) && rows.iter().all(|row| blank(row))
+    })
+}
+
+fn log([kinds, numbers, values]: &mut [Vec<u32>; 3], room: [usize; 3]) -> PllLog<'_> {
+    PllLog {
+        kinds: &mut kinds[..room[0]],
+        numbers: &mut numbers[..room[1]],
+        values: &mut values[..room[2]],
+    }
+}
+
+/// The numbers of a request before its words.
+pub fn plan(n: &[u32]) -> PllPlan {
+    let byte = |number: u32| u8::try_from(number).expect("the generator keeps to the types");
+    let short = |number: u32| u16::try_from(number).expect("the generator keeps to the types");
+    PllPlan {
+        pll: byte(n[0]),
+        bypassed: n[1] == 1,
+        fdiv: byte(n[2]),
+        charge_pump: byte(n[3]),
+        loop_resistor: byte(n[4]),
+        lock_count: short(n[5]),
+        limit: short(n[6]),
+    }
 }

@@ -27,7 +27,7 @@ impl Progress {
         state.0 += done;
         if self.shown && state.1.elapsed() >= EVERY {
             state.1 = Instant::now();
-            eprint!("\r{:11} {} of {}", self.name, state.0, self.total);
+            eprint!("\r{:15} {} of {}", self.name, state.0, self.total);
             let _ = stderr().flush();
         }
     }

@@ -11,6 +11,8 @@ pub const ROOM: u32 = 251;
 pub enum Subject {
     /// reference, target, largest divisor
     TwoStage,
+    /// the same, with largest divisors that make a search long
+    TwoStageLarge,
     /// reference, 0 for normal or 1 for fast
     I2c,
     /// reference, a, b
@@ -41,8 +43,9 @@ pub enum Subject {
     Starts,
 }
 
-pub const SUBJECTS: [Subject; 15] = [
+pub const SUBJECTS: [Subject; 16] = [
     Subject::TwoStage,
+    Subject::TwoStageLarge,
     Subject::I2c,
     Subject::I2cSpeed,
     Subject::Ttc,
@@ -66,6 +69,7 @@ impl Subject {
     pub fn name(self) -> &'static str {
         match self {
             Self::TwoStage => "two-stage",
+            Self::TwoStageLarge => "two-stage-large",
             Self::I2c => "i2c",
             Self::I2cSpeed => "i2c-speed",
             Self::Ttc => "ttc",
@@ -80,6 +84,14 @@ impl Subject {
             Self::DdrInit => "ddr-init",
             Self::PllSeq => "pll-seq",
             Self::Starts => "starts",
+        }
+    }
+
+    /// Of so many random requests asked for, one is made: a long search takes some milliseconds.
+    pub fn rarity(self) -> usize {
+        match self {
+            Self::TwoStageLarge => 20_000,
+            _ => 1,
         }
     }
 

@@ -14,7 +14,9 @@ impl Side for Original {
     fn answer(&self, request: &Request) -> Answer {
         let n = &request.numbers[..];
         match request.subject {
-            Subject::TwoStage => pair(original::two_stage(n[0], n[1], n[2]), 0),
+            Subject::TwoStage | Subject::TwoStageLarge => {
+                pair(original::two_stage(n[0], n[1], n[2]), 0)
+            }
             Subject::I2c => pair(original::i2c(n[0], n[1] == 1), 10),
             Subject::I2cSpeed => Answer::given([original::i2c_speed(n[0], n[1] as u8, n[2] as u8)]),
             Subject::Ttc => {
@@ -120,6 +122,6 @@ fn starts(numbers: &[u32]) -> Answer {
     Answer::given(numbers.iter().map(started).collect::<Vec<u32>>())
 }
 
-fn pll(number: u32) -> Pll {
+pub fn pll(number: u32) -> Pll {
     [Pll::Arm, Pll::Ddr, Pll::Io][number as usize]
 }

@@ -61,7 +61,7 @@ fn lower(number: u32) -> impl Iterator<Item = u32> {
 
 /// The original tries every first divisor unless the very first one hits the target.
 fn affordable(request: &Request) -> bool {
-    if request.subject != Subject::TwoStage {
+    if !matches!(request.subject, Subject::TwoStage | Subject::TwoStageLarge) {
         return true;
     }
     let [reference, target, largest] = request.numbers[..] else {

@@ -1,14 +1,23 @@
 //! The clock arithmetic of a Zynq-7000, proved, for Rust: a safe crate over the static library.
 //!
-//! Frequencies are whole Hertz. A [`Refusal`] bears document 01's number and what it carries. Where the static
-//! library was not at hand the crate is empty.
+//! Names and types are those of zynq7000-rs, with two changes throughout: a call that can refuse gives a [`Refusal`]
+//! with document 01's number, and registers are an image of 50 words that the caller read. Frequencies are whole Hertz,
+//! and every quotient is rounded down.
+//!
+//! The library is for x86-64 Linux. Where it was not at hand when this was built, the crate is empty, and the build said
+//! what was missing.
+#![cfg_attr(archive, doc = include_str!("example.md"))]
 #![cfg(archive)]
 
-mod calls;
+pub mod clocks;
 mod ffi;
-pub mod lent;
+pub mod fpga;
+pub mod i2c;
+pub mod pll;
+pub mod raw;
 mod refusal;
+pub mod time;
+pub mod ttc;
+pub mod uart;
 
-pub use calls::*;
-pub use ffi::BaudDivisors;
-pub use refusal::{Refusal, STARVED, Told};
+pub use refusal::Refusal;

@@ -1,37 +1,155 @@
-//! Refusals, as document 01 numbers them.
+//! Why there is no answer, by document 01's numbers.
+use crate::clocks::ClockModuleId;
+use crate::raw;
 use std::error::Error;
 use std::fmt::{self, Display, Formatter};
 
-/// How a sequence ends whose host has no word left to return: not a refusal of document 01.
-pub const STARVED: u32 = u32::MAX;
-
-/// Why there is no answer.
-#[derive(Clone, Copy, Debug, PartialEq, Eq)]
-pub struct Refusal {
-    pub number: u32,
-    /// A module, a multiplier or a count, where the number has one.
-    pub carried: u32,
+/// A refusal. Nothing that was lent has changed.
+///
+/// ```
+/// use ogruspinu::{Refusal, pll::PllConfig};
+///
+/// let refusal = PllConfig::new(67).unwrap_err();
+/// assert_eq!(refusal, Refusal::MulRange(67));
+/// assert_eq!((refusal.number(), refusal.carried()), (5, Some(67)));
+/// assert_eq!(refusal.to_string(), "the multiplier 67 is not one of 13 to 66 (refusal 5)");
+/// ```
+#[derive(Clone, Copy, Debug, PartialEq, Eq, Hash)]
+pub enum Refusal {
+    /// 1: the image is not 50 words.
+    BadImage,
+    /// 2: a checked divisor field of this module is 0.
+    DivisorZero(ClockModuleId),
+    /// 3: crystal times FDIV does not fit into 32 bits; the module is always the PLLs'.
+    Overflow(ClockModuleId),
+    /// 4: crystal 0 in a PLL setting by target.
+    ZeroInput,
+    /// 5: this multiplier is not one of 13 to 66.
+    MulRange(u32),
+    /// 6: the target is 0.
+    ZeroTarget,
+    /// 7: the largest divisor is 0.
+    BadMax,
+    /// 8: no UART candidate exists.
+    NoPair,
+    /// 9: the lent row is too short; so many are needed.
+    NoRoom(u32),
+    /// 10: the I2C input is above 5632 times the calculation frequency.
+    Speed,
+    /// 11: the PLL is unlocked at the last allowed poll.
+    LockTimeout,
+    /// 12: the poll limit is 0.
+    BadLimit,
+    /// 13: a once-only PLL start is repeated.
+    Already,
+    /// 20: a number is too wide for its field.
+    BadField,
 }
 
-pub type Told<T> = Result<T, Refusal>;
+impl Refusal {
+    /// The refusal of a number and of what it carries, if document 01 has it.
+    ///
+    /// ```
+    /// use ogruspinu::{Refusal, clocks::ClockModuleId};
+    ///
+    /// assert_eq!(Refusal::of(2, 11), Some(Refusal::DivisorZero(ClockModuleId::Trace)));
+    /// assert_eq!(Refusal::of(14, 0), None);
+    /// ```
+    pub fn of(number: u32, carried: u32) -> Option<Self> {
+        Some(match number {
+            1 => Self::BadImage,
+            2 => Self::DivisorZero(ClockModuleId::of(carried)?),
+            3 => Self::Overflow(ClockModuleId::of(carried)?),
+            4 => Self::ZeroInput,
+            5 => Self::MulRange(carried),
+            6 => Self::ZeroTarget,
+            7 => Self::BadMax,
+            8 => Self::NoPair,
+            9 => Self::NoRoom(carried),
+            10 => Self::Speed,
+            11 => Self::LockTimeout,
+            12 => Self::BadLimit,
+            13 => Self::Already,
+            20 => Self::BadField,
+            _ => return None,
+        })
+    }
 
-/// The two halves of what an exported function gives.
-#[inline]
-pub(crate) fn told(result: u64) -> Told<u32> {
-    let (number, high) = (result as u32, (result >> 32) as u32);
-    match number {
-        0 => Ok(high),
-        _ => Err(Refusal {
-            number,
-            carried: high,
-        }),
+    /// Document 01's number.
+    pub const fn number(self) -> u32 {
+        match self {
+            Self::BadImage => 1,
+            Self::DivisorZero(_) => 2,
+            Self::Overflow(_) => 3,
+            Self::ZeroInput => 4,
+            Self::MulRange(_) => 5,
+            Self::ZeroTarget => 6,
+            Self::BadMax => 7,
+            Self::NoPair => 8,
+            Self::NoRoom(_) => 9,
+            Self::Speed => 10,
+            Self::LockTimeout => 11,
+            Self::BadLimit => 12,
+            Self::Already => 13,
+            Self::BadField => 20,
+        }
+    }
+
+    /// The number that the refusal carries, if it carries one.
+    pub const fn carried(self) -> Option<u32> {
+        match self {
+            Self::DivisorZero(module) | Self::Overflow(module) => Some(module as u32),
+            Self::MulRange(number) | Self::NoRoom(number) => Some(number),
+            _ => None,
+        }
     }
 }
 
 impl Display for Refusal {
     fn fmt(&self, f: &mut Formatter<'_>) -> fmt::Result {
-        write!(f, "refused {} {}", self.number, self.carried)
+        match self {
+            Self::BadImage => write!(f, "the image is not 50 words"),
+            Self::DivisorZero(module) => write!(f, "a divisor of {module:?} is 0"),
+            Self::Overflow(_) => write!(f, "crystal times FDIV does not fit into 32 bits"),
+            Self::ZeroInput => write!(f, "the crystal is 0"),
+            Self::MulRange(by) => write!(f, "the multiplier {by} is not one of 13 to 66"),
+            Self::ZeroTarget => write!(f, "the target is 0"),
+            Self::BadMax => write!(f, "the largest divisor is 0"),
+            Self::NoPair => write!(f, "there is no UART candidate"),
+            Self::NoRoom(needed) => write!(f, "room for {needed} is needed"),
+            Self::Speed => write!(f, "the I2C speed is not attainable"),
+            Self::LockTimeout => write!(f, "the PLL is unlocked at the last allowed poll"),
+            Self::BadLimit => write!(f, "the poll limit is 0"),
+            Self::Already => write!(f, "the PLL was started before"),
+            Self::BadField => write!(f, "a number is too wide for its field"),
+        }?;
+        write!(f, " (refusal {})", self.number())
     }
 }
 
 impl Error for Refusal {}
+
+/// What an exported function tells: the upper half of an answer, or its refusal.
+#[inline]
+pub(crate) fn told(told: u64) -> Result<u32, Refusal> {
+    match raw::halves(told) {
+        (0, answer) => Ok(answer),
+        (number, carried) => Err(refused(number, carried)),
+    }
+}
+
+#[cold]
+fn refused(number: u32, carried: u32) -> Refusal {
+    let refusal = Refusal::of(number, carried);
+    refusal.expect("the library's contracts have no other refusal")
+}
+
+/// Lends N words and gives them back filled.
+#[inline]
+pub(crate) fn words<const N: usize>(
+    call: impl FnOnce(&mut [u32]) -> u64,
+) -> Result<[u32; N], Refusal> {
+    let mut words = [0; N];
+    told(call(&mut words))?;
+    Ok(words)
+}

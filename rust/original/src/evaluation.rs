@@ -1,5 +1,5 @@
 //! The evaluation of an image, the GEM clocks, and the pure parts of the CPU and DDR set-up.
-use crate::clocks::{ArmClocks, ClockReadError, Clocks, CpuClockRatio, DdrClocks, IoClocks};
+use crate::clocks::{ArmClocks, ClockReadError, Clocks, CpuClockRatio, DdrClocks};
 use crate::time::Hertz;
 use arbitrary_int::u6;
 use device::WORDS;
@@ -26,8 +26,7 @@ pub fn clocks(crystal: u32, image: &[u32; WORDS]) -> Result<[u32; CLOCK_NUMBERS]
     evaluate(crystal, image).map(|clocks| numbers(&clocks))
 }
 
-/// The numbers of an evaluated image after one IO clock was updated by hand; `which` counts SMC, QSPI, SDIO,
-/// UART, SPI, CAN, PCAP from 0.
+/// The numbers of an evaluated image after one IO clock was updated by hand.
 pub fn updated(
     which: u32,
     hertz: u32,
@@ -35,17 +34,23 @@ pub fn updated(
     image: &[u32; WORDS],
 ) -> Result<[u32; CLOCK_NUMBERS], u32> {
     let mut clocks = evaluate(crystal, image)?;
-    let update = [
-        IoClocks::update_smc_clk,
-        IoClocks::update_qspi_clk,
-        IoClocks::update_sdio_clk,
-        IoClocks::update_uart_clk,
-        IoClocks::update_spi_clk,
-        IoClocks::update_can_clk,
-        IoClocks::update_pcap_2x_clk,
-    ][which as usize];
-    update(clocks.io_clocks_mut(), Hertz::from_raw(hertz));
+    update(which, hertz, &mut clocks);
     Ok(numbers(&clocks))
+}
+
+/// Puts another frequency into a record; `which` counts SMC, QSPI, SDIO, UART, SPI, CAN, PCAP from 0.
+#[inline(never)]
+pub fn update(which: u32, hertz: u32, clocks: &mut Clocks) {
+    let (io, hertz) = (clocks.io_clocks_mut(), Hertz::from_raw(hertz));
+    match which {
+        0 => io.update_smc_clk(hertz),
+        1 => io.update_qspi_clk(hertz),
+        2 => io.update_sdio_clk(hertz),
+        3 => io.update_uart_clk(hertz),
+        4 => io.update_spi_clk(hertz),
+        5 => io.update_can_clk(hertz),
+        _ => io.update_pcap_2x_clk(hertz),
+    }
 }
 
 /// The reference clock of GEM 0 or 1, or the module whose divisor is 0.

@@ -28,5 +28,10 @@ mod pll;
 pub use boot::BootMode;
 pub use device::{Access, WORDS};
 pub use divisors::{Baud, i2c, i2c_speed, ttc_interval, two_stage, uart, uart_list, uart_viable};
-pub use evaluation::{CLOCK_NUMBERS, EMIO, clocks, cpu_init, ddr_init, evaluate, gem, updated};
-pub use pll::{Pll, Refused, Setting, fields, mul_setting, new_device, run, start, target_setting};
+pub use evaluation::{
+    CLOCK_NUMBERS, EMIO, clocks, cpu_init, ddr_init, evaluate, gem, update, updated,
+};
+pub use pll::{
+    Pll, Refused, Setting, fields, mul_setting, new_device, run, run_in_place, start,
+    target_setting,
+};

@@ -3,7 +3,7 @@ use crate::BootMode;
 use crate::clocks::pll::{self, PllConfig, PllConfigCtorError};
 use crate::time::Hertz;
 use arbitrary_int::{u4, u7, u10};
-use device::Access;
+use device::{Access, WORDS};
 
 /// FDIV, charge pump, resistor and lock count.
 pub type Setting = [u32; 4];
@@ -63,7 +63,14 @@ pub fn run(pll: Pll, bypassed: bool, setting: Setting, reads: &[u32]) -> (Vec<Ac
     configured(pll, false, bypassed, raw(setting), reads)
 }
 
-/// The same by the once-only start: no access at all where the PLL was started before.
+/// The sequence where each read gives a word of the image, which shows the lock, and each write goes nowhere.
+#[inline(never)]
+pub fn run_in_place(pll: Pll, bypassed: bool, setting: Setting, image: &[u32; WORDS]) {
+    let mode = BootMode::new(bypassed);
+    device::reading(image, || unchecked(pll, mode, raw(setting)));
+}
+
+/// As [`run`], by the once-only start: no access at all where the PLL was started before.
 pub fn start(pll: Pll, bypassed: bool, setting: Setting, reads: &[u32]) -> (Vec<Access>, bool) {
     configured(pll, true, bypassed, raw(setting), reads)
 }
@@ -94,14 +101,18 @@ fn configured(
         (true, Pll::Arm) => pll::configure_arm_pll(mode, setting),
         (true, Pll::Ddr) => pll::configure_ddr_pll(mode, setting),
         (true, Pll::Io) => pll::configure_io_pll(mode, setting),
-        // SAFETY: there is no PLL behind the stand-in registers.
-        (false, pll) => unsafe {
-            match pll {
-                Pll::Arm => pll::configure_arm_pll_unchecked(mode, setting),
-                Pll::Ddr => pll::configure_ddr_pll_unchecked(mode, setting),
-                Pll::Io => pll::configure_io_pll_unchecked(mode, setting),
-            }
-        },
+        (false, pll) => unchecked(pll, mode, setting),
     });
     (log, end.is_some())
+}
+
+fn unchecked(pll: Pll, mode: BootMode, setting: PllConfig) {
+    // SAFETY: there is no PLL behind the stand-in registers.
+    unsafe {
+        match pll {
+            Pll::Arm => pll::configure_arm_pll_unchecked(mode, setting),
+            Pll::Ddr => pll::configure_ddr_pll_unchecked(mode, setting),
+            Pll::Io => pll::configure_io_pll_unchecked(mode, setting),
+        }
+    }
 }

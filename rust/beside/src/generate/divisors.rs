@@ -5,6 +5,7 @@ use crate::rng::Rng;
 const MAX: u32 = u32::MAX;
 
 pub const TWO_STAGE: Sources = Sources(two_stage_edges, two_stage_small, two_stage_random);
+pub const TWO_STAGE_LARGE: Sources = Sources(Vec::new, Vec::new, two_stage_large);
 pub const I2C: Sources = Sources(i2c_edges, || grid([0..=2_500, 0..=1]), i2c_random);
 pub const I2C_SPEED: Sources = Sources(i2c_speed_edges, i2c_speed_small, i2c_speed_random);
 pub const TTC: Sources = Sources(ttc_edges, || grid([0..=200, 0..=24]), ttc_random);
@@ -72,6 +73,17 @@ fn two_stage_random(rng: &Rng) -> Numbers {
         _ => rng.near(reference / first / second).max(1),
     };
     vec![reference, target, largest]
+}
+
+/// Largest divisors of 13 to 20 bits, and targets that are seldom hit at once.
+fn two_stage_large(rng: &Rng) -> Numbers {
+    let largest = rng.word() >> rng.within(12, 19);
+    let reference = rng.word() | 1 << 31;
+    let target = match rng.below(3) {
+        0 => rng.magnitude(32),
+        _ => rng.near(reference / rng.within(1, largest)),
+    };
+    vec![reference, target.max(1), largest]
 }
 
 /// The frequencies that the I2C search aims at.

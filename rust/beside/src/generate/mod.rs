@@ -27,6 +27,7 @@ impl Generator {
     pub fn of(subject: Subject) -> Self {
         let sources = match subject {
             Subject::TwoStage => divisors::TWO_STAGE,
+            Subject::TwoStageLarge => divisors::TWO_STAGE_LARGE,
             Subject::I2c => divisors::I2C,
             Subject::I2cSpeed => divisors::I2C_SPEED,
             Subject::Ttc => divisors::TTC,

@@ -43,6 +43,8 @@ fn target_random(rng: &Rng) -> Numbers {
 }
 
 const WIDEST: [u32; 4] = [127, 15, 15, 1_023];
+/// How many values the types have in which the fields are passed: three bytes and 16 bits.
+const HELD: [u32; 4] = [256, 256, 256, 65_536];
 
 fn sequence(pll: u32, bypassed: u32, setting: [u32; 4], limit: u32, reads: &[u32]) -> Numbers {
     let head = [pll, bypassed].into_iter().chain(setting).chain([limit]);
@@ -101,7 +103,8 @@ fn sequence_random(rng: &Rng) -> Numbers {
     let pll = rng.below(3);
     let mut setting = WIDEST.map(|most| rng.within(0, most));
     if rng.one_in(40) {
-        setting[rng.below(4) as usize] = rng.magnitude(32);
+        let field = rng.below(4) as usize;
+        setting[field] = rng.below(HELD[field]);
     }
     let mut reads: Vec<u32> = (0..4).map(|_| rng.word()).collect();
     let clear = match rng.below(4) {

@@ -111,11 +111,18 @@ pub fn scripted<R>(reads: &[u32], f: impl FnOnce() -> R) -> (Vec<Access>, Option
     }
 }
 
-/// One read of a word by the script, or 0 where nothing lies behind the registers.
+/// One read of a word by the script, or from a lent image, or 0 where nothing lies behind the registers.
 #[inline]
 pub fn read(word: u32) -> u32 {
     if !SCRIPTED.get() {
-        return 0;
+        let image = IMAGE.get();
+        let at = word as usize;
+        // SAFETY: a pointer that is not null is to an image of WORDS words that is lent for as long as it stands here.
+        return if image.is_null() || at >= WORDS {
+            0
+        } else {
+            unsafe { image.add(at).read_volatile() }
+        };
     }
     let answer = SCRIPT.with_borrow_mut(|script| {
         let script = script.as_mut()?;

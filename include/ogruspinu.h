@@ -1,0 +1,255 @@
+/*
+ * Ogruspinu: the clock arithmetic of a Zynq-7000, proved, for programs in C and C++.
+ *
+ * Link libarchive.a, which `rt staticlib archive` writes to target/staticlib/. It is for x86-64 Linux alone.
+ *
+ * Frequencies are whole Hertz in 32 bits, and every quotient is rounded down. A row of words is lent as a pointer and its length in
+ * words. The pointer may be null where the length is 0; two rows of one call must not overlap.
+ *
+ * A call that can refuse returns 64 bits. ogr_number() of them is 0 for an answer, else the refusal's number. ogr_carried() of them is
+ * what the refusal carries, 0 where it carries nothing, or the answer itself where that is a single number. Any longer answer stands
+ * at the front of the lent row `out`, and what lies behind it stays as it was.
+ *
+ * A refusal writes nothing. A row `out` that is too short is refused before anything else is looked at: OGR_NO_ROOM, which carries the
+ * words needed. So `out_len` 0 asks how long a row has to be.
+ */
+#ifndef OGRUSPINU_H
+#define OGRUSPINU_H
+
+#include <stdbool.h>
+#include <stddef.h>
+#include <stdint.h>
+
+#ifdef __cplusplus
+extern "C" {
+#endif
+
+/* The refusals, by document 01's numbers. */
+enum ogr_refusal {
+    OGR_BAD_IMAGE = 1,     /* the image is not OGR_IMAGE_WORDS long */
+    OGR_DIVISOR_ZERO = 2,  /* a checked divisor field is 0; carries its ogr_module */
+    OGR_OVERFLOW = 3,      /* crystal times FDIV does not fit 32 bits; carries OGR_MODULE_PLL */
+    OGR_ZERO_INPUT = 4,    /* crystal 0 in a PLL setting by target */
+    OGR_MUL_RANGE = 5,     /* the multiplier is not one of 13 to 66; carries it */
+    OGR_ZERO_TARGET = 6,   /* the target is 0 */
+    OGR_BAD_MAX = 7,       /* the largest divisor is 0 */
+    OGR_NO_PAIR = 8,       /* no UART candidate exists */
+    OGR_NO_ROOM = 9,       /* the lent row is too short; carries how many words, records or accesses there are */
+    OGR_SPEED = 10,        /* the I2C input is above 5632 times the calculation frequency */
+    OGR_LOCK_TIMEOUT = 11, /* the PLL is unlocked at the last allowed poll */
+    OGR_BAD_LIMIT = 12,    /* the poll limit is 0 */
+    OGR_ALREADY = 13,      /* a once-only PLL start is repeated */
+    OGR_BAD_FIELD = 20     /* a number does not fit its field, or there is no such PLL or IO clock */
+};
+
+/* What OGR_DIVISOR_ZERO and OGR_OVERFLOW carry. The order of the checks is another: document 01's text. */
+enum ogr_module {
+    OGR_MODULE_PLL,
+    OGR_MODULE_DDR,
+    OGR_MODULE_ARM,
+    OGR_MODULE_SMC,
+    OGR_MODULE_QSPI,
+    OGR_MODULE_SDIO,
+    OGR_MODULE_UART,
+    OGR_MODULE_SPI,
+    OGR_MODULE_PCAP,
+    OGR_MODULE_CAN,
+    OGR_MODULE_FPGA,
+    OGR_MODULE_TRACE,
+    OGR_MODULE_GEM0,
+    OGR_MODULE_GEM1
+};
+
+/* Where an evaluation's row has which clock, in Hertz but for the CPU's ratio and the last word. */
+enum ogr_clock {
+    OGR_CLOCK_ARM_PLL,
+    OGR_CLOCK_IO_PLL,
+    OGR_CLOCK_DDR_PLL,
+    OGR_CLOCK_CPU_REF,   /* the ARM PLL's output, whatever the source field selects */
+    OGR_CLOCK_CPU_RATIO, /* 0 is 4:2:1, 1 is 6:2:1 */
+    OGR_CLOCK_CPU_1X,
+    OGR_CLOCK_CPU_2X,
+    OGR_CLOCK_CPU_3X2X,
+    OGR_CLOCK_CPU_6X4X,
+    OGR_CLOCK_DDR_REF,
+    OGR_CLOCK_DDR_3X,
+    OGR_CLOCK_DDR_2X,
+    OGR_CLOCK_IO_REF,
+    OGR_CLOCK_SMC,
+    OGR_CLOCK_QSPI,
+    OGR_CLOCK_SDIO,
+    OGR_CLOCK_UART,
+    OGR_CLOCK_SPI,
+    OGR_CLOCK_CAN,
+    OGR_CLOCK_PCAP,
+    OGR_CLOCK_TRACE, /* 0 where trace is EMIO's */
+    OGR_CLOCK_FPGA0,
+    OGR_CLOCK_FPGA1,
+    OGR_CLOCK_FPGA2,
+    OGR_CLOCK_FPGA3,
+    OGR_CLOCK_TRACE_EMIO, /* 1 where trace is EMIO's: it has no clock then */
+    OGR_CLOCK_WORDS
+};
+
+/* The IO clocks that can be updated. */
+enum ogr_io_clock {
+    OGR_IO_SMC,
+    OGR_IO_QSPI,
+    OGR_IO_SDIO,
+    OGR_IO_UART,
+    OGR_IO_SPI,
+    OGR_IO_CAN,
+    OGR_IO_PCAP
+};
+
+/* The PLLs by number. */
+enum ogr_pll { OGR_PLL_ARM, OGR_PLL_DDR, OGR_PLL_IO };
+
+/* Words of an image: word i is the SLCR register at offset 0x100 + 4i. */
+#define OGR_IMAGE_WORDS 50
+
+/* The most viable baud pairs that there can be. */
+#define OGR_MOST_BAUD_PAIRS 251
+
+/* The most accesses that ogr_pll_run can make: so many words read, and 7 writes. */
+#define OGR_MOST_ACCESSES(reads_len) ((size_t)(reads_len) + 7)
+
+/* How ogr_pll_run ends where the words to be read run out; not a refusal. */
+#define OGR_STARVED UINT32_C(0xFFFFFFFF)
+
+/* A UART pair: baud = reference / (cd * (bdiv + 1)), with the error as a fraction of the baud rate asked for. */
+struct ogr_baud_divisors {
+    uint16_t cd;
+    uint8_t bdiv;
+    float error;
+};
+
+/* 0 for an answer, else the refusal's number. */
+static inline uint32_t ogr_number(uint64_t told) { return (uint32_t)told; }
+
+/* What the refusal carries, or the answer where it is a single number. */
+static inline uint32_t ogr_carried(uint64_t told) { return (uint32_t)(told >> 32); }
+
+/* ---- Two-stage dividers ---- */
+
+/*
+ * The divisors d0 and d1 from 1 to `largest` whose reference/(d0 d1) is nearest to `target`. Ties go to the smallest d0; then, if
+ * any is not below the target, to the largest d1 of those, else to the smallest d1.
+ * out: 2 words, d0 and d1.
+ * Refusals: OGR_NO_ROOM (2); OGR_ZERO_TARGET; then OGR_BAD_MAX.
+ */
+uint64_t ogr_two_stage(uint32_t reference, uint32_t target, uint32_t largest, uint32_t *out, size_t out_len);
+
+/* reference/(div0 div1), in Hertz; 0 where a divisor is 0. Refuses nothing. */
+uint32_t ogr_two_stage_frequency(uint32_t reference, uint32_t div0, uint32_t div1);
+
+/* ---- I2C ---- */
+
+/*
+ * The divisors a from 1 to 4 and b from 1 to 64 whose input/(22ab) is nearest to 90,000 Hz, or to 384,600 Hz if `fast`: what a nominal
+ * 100 or 400 kHz asks for. Ties go to the smaller a, then to the smaller b.
+ * out: 2 words, the register values a-1 and b-1.
+ * Refusals: OGR_NO_ROOM (2); OGR_SPEED.
+ */
+uint64_t ogr_i2c_divisors(uint32_t input, bool fast, uint32_t *out, size_t out_len);
+
+/* The speed of two register values: input/(22 (div_a + 1) (div_b + 1)), in Hertz. Refuses nothing. */
+uint32_t ogr_i2c_speed(uint32_t input, uint8_t div_a, uint8_t div_b);
+
+/* ---- Triple timer counter ---- */
+
+/*
+ * The least k with reference/(2^k frequency) at most 65,535, and that quotient.
+ * out: 2 words, k and the ticks. The prescaler is off where k is 0; its field is k-1 elsewhere.
+ * Refusals: OGR_NO_ROOM (2); OGR_ZERO_TARGET.
+ */
+uint64_t ogr_ttc(uint32_t reference, uint32_t frequency, uint32_t *out, size_t out_len);
+
+/* ---- PLL settings and sequence ---- */
+
+/*
+ * The manual's setting for a multiplier.
+ * out: 4 words, FDIV, charge pump, resistor and lock count.
+ * Refusals: OGR_NO_ROOM (4); OGR_MUL_RANGE, carrying the multiplier.
+ */
+uint64_t ogr_pll_mul(uint32_t multiplier, uint32_t *out, size_t out_len);
+
+/*
+ * The same for the multiplier target/crystal.
+ * Refusals: OGR_NO_ROOM (4); OGR_ZERO_INPUT; OGR_MUL_RANGE, carrying the multiplier.
+ */
+uint64_t ogr_pll_target(uint32_t crystal, uint32_t target, uint32_t *out, size_t out_len);
+
+/*
+ * The whole sequence that sets a PLL up and waits for its lock, over the words that the registers give when read, in their order.
+ * `bypassed` says that the chip was booted with its PLLs bypassed, `limit` how many polls may show the lock bit clear. Nothing is
+ * marked as started, and what was started before does not matter.
+ * kinds, numbers, values: of each access 0 for a read or 1 for a write, the image's word, and the value read or written.
+ * ogr_number() is 0 when locked, OGR_LOCK_TIMEOUT, or OGR_STARVED where another word was to be read and there is none. With all three
+ * ogr_carried() is the number of accesses, which stand at the front of the rows, and what lies behind them stays.
+ * Refusals: OGR_BAD_LIMIT for limit 0; OGR_BAD_FIELD for a PLL that is none of ogr_pll, FDIV over 127, charge pump or resistor over 15,
+ * or lock count over 1023; OGR_NO_ROOM where a row is shorter than the accesses are many, carrying how many there are, at most
+ * OGR_MOST_ACCESSES(reads_len).
+ */
+uint64_t ogr_pll_run(uint8_t pll, bool bypassed, uint8_t fdiv, uint8_t charge_pump, uint8_t loop_resistor, uint16_t lock_count,
+                     uint16_t limit, const uint32_t *reads, size_t reads_len, uint32_t *kinds, size_t kinds_len,
+                     uint32_t *numbers, size_t numbers_len, uint32_t *values, size_t values_len);
+
+/* ---- UART ---- */
+
+/*
+ * The pair with the least error for a baud rate, the first divider on a tie.
+ * out: 3 words, the clock divisor, the baud divider and the bits of the error as a float.
+ * Refusals: OGR_NO_ROOM (3); OGR_NO_PAIR.
+ */
+uint64_t ogr_uart_best(uint32_t reference, uint32_t baud, uint32_t *out, size_t out_len);
+
+/*
+ * Every pair with an error below half a percent, in rising order of the divider. ogr_carried() is how many there are; at most
+ * OGR_MOST_BAUD_PAIRS. None is the answer 0. Records behind them stay as they were.
+ * Refusals: OGR_NO_ROOM where there are more pairs than records, carrying how many pairs there are.
+ */
+uint64_t ogr_uart_list(uint32_t reference, uint32_t baud, struct ogr_baud_divisors *records, size_t records_len);
+
+/* ---- Clocks ---- */
+
+/*
+ * Every clock that an image of the SLCR's clock registers gives.
+ * out: OGR_CLOCK_WORDS words, as ogr_clock orders them.
+ * Refusals: OGR_NO_ROOM (OGR_CLOCK_WORDS); OGR_BAD_IMAGE; OGR_DIVISOR_ZERO with OGR_MODULE_PLL; OGR_OVERFLOW; OGR_DIVISOR_ZERO with the
+ * first module of Arm, Ddr, Smc, Qspi, Sdio, Uart, Spi, Pcap, Can, Trace, Fpga that has a divisor 0. Trace's is checked under EMIO too.
+ */
+uint64_t ogr_clocks(uint32_t crystal, const uint32_t *image, size_t image_len, uint32_t *out, size_t out_len);
+
+/*
+ * The reference clock of Ethernet 0, or 1 if `second`, in Hertz: ogr_carried() of an answer.
+ * Refusals: those of ogr_clocks on the same image but for OGR_NO_ROOM; then OGR_DIVISOR_ZERO with OGR_MODULE_GEM0 or OGR_MODULE_GEM1.
+ */
+uint64_t ogr_gem(bool second, uint32_t crystal, const uint32_t *image, size_t image_len);
+
+/*
+ * Sets one IO clock, an ogr_io_clock, in a row that ogr_clocks filled. No other word changes.
+ * Refusals: OGR_NO_ROOM (OGR_CLOCK_WORDS); OGR_BAD_FIELD where there is no such IO clock.
+ */
+uint64_t ogr_io_update(uint32_t which, uint32_t hertz, uint32_t *clocks, size_t clocks_len);
+
+/*
+ * The CPU's clocks after its set-up from the ARM PLL's output: 6:2:1 if `six`, else 4:2:1. 2x and 3x2x are multiples of 1x here, as in
+ * the original, and not quotients as in ogr_clocks.
+ * out: 4 words, 1x, 2x, 3x2x and 6x4x.
+ * Refusals: OGR_NO_ROOM (4); OGR_DIVISOR_ZERO with OGR_MODULE_ARM; OGR_BAD_FIELD for a divisor over 63.
+ */
+uint64_t ogr_cpu_init(uint32_t pll, bool six, uint32_t divisor, uint32_t *out, size_t out_len);
+
+/*
+ * The DDR's clocks after its set-up: the reference over each divisor.
+ * out: 2 words, 3x and 2x.
+ * Refusals: OGR_NO_ROOM (2); OGR_DIVISOR_ZERO with OGR_MODULE_DDR where either is 0; OGR_BAD_FIELD where either is over 63.
+ */
+uint64_t ogr_ddr_init(uint32_t reference, uint32_t div_3x, uint32_t div_2x, uint32_t *out, size_t out_len);
+
+#ifdef __cplusplus
+}
+#endif
+
+#endif

@@ -1,0 +1,112 @@
+//! What the examples in the documentation leave out: every refusal by its number, and the ends of a sequence.
+#![cfg(archive)]
+use ogruspinu::Refusal;
+use ogruspinu::clocks::{Clocks, CpuClockRatio};
+use ogruspinu::pll::{Access, BootPllConfig, End, PllConfig, PllType, configure_pll_unchecked};
+use ogruspinu::time::Hertz;
+
+#[test]
+fn refusals_have_document_01s_numbers() {
+    let known: Vec<u32> = (0..=u8::MAX.into())
+        .filter(|&number| Refusal::of(number, 13).is_some())
+        .collect();
+    assert_eq!(known, [1, 2, 3, 4, 5, 6, 7, 8, 9, 10, 11, 12, 13, 20]);
+    for number in known {
+        let refusal = Refusal::of(number, 13).expect("it is known");
+        assert_eq!(refusal.number(), number);
+        let carries = matches!(number, 2 | 3 | 5 | 9);
+        assert_eq!(refusal.carried(), carries.then_some(13));
+        assert!(
+            refusal
+                .to_string()
+                .ends_with(&format!("(refusal {number})"))
+        );
+    }
+    assert_eq!(Refusal::of(2, 14), None);
+}
+
+/// FDIV 1, 2 and 3, sources of every kind, and divisors that tell the clocks apart.
+fn evaluated(trace_source: u32) -> Clocks {
+    let mut image = [0; 50];
+    image[..3].copy_from_slice(&[0x1000, 0x2000, 0x3000]);
+    image[8] = 0x0000_0220;
+    image[9] = 0x0C20_0000;
+    for (word, divisor) in (18..=26).zip(1..) {
+        image[word] = 0x0010_0000 | divisor << 8;
+    }
+    image[25] |= trace_source << 4;
+    image[28] = 0x0020_0120;
+    image[32] = 0x0020_0230;
+    image[36] = 0x0010_0500;
+    image[40] = 0x0010_0600;
+    image[49] = 1;
+    Clocks::new_from_regs(Hertz::from_raw(36_000), &image).expect("no divisor is 0")
+}
+
+#[test]
+fn a_record_has_its_plls_and_its_cpu() {
+    let clocks = evaluated(0);
+    assert_eq!(clocks.ps_clk().to_raw(), 36_000);
+    assert_eq!(clocks.arm_pll_out().to_raw(), 36_000);
+    assert_eq!(clocks.ddr_pll_out().to_raw(), 72_000);
+    assert_eq!(clocks.io_pll_out().to_raw(), 108_000);
+    let arm = clocks.arm_clocks();
+    assert_eq!(arm.ref_clk().to_raw(), 36_000);
+    assert_eq!(arm.ratio(), CpuClockRatio::SixToTwoToOne);
+    assert_eq!(arm.cpu_1x_clk().to_raw(), 6_000);
+    assert_eq!(arm.cpu_2x_clk().to_raw(), 12_000);
+    assert_eq!(arm.cpu_3x2x_clk().to_raw(), 18_000);
+    assert_eq!(arm.cpu_6x4x_clk().to_raw(), 36_000);
+}
+
+#[test]
+fn a_record_has_its_other_clocks() {
+    let clocks = evaluated(0);
+    let (ddr, io) = (clocks.ddr_clocks(), clocks.io_clocks());
+    assert_eq!(ddr.ref_clk().to_raw(), 72_000);
+    assert_eq!(ddr.ddr_3x_clk().to_raw(), 36_000);
+    assert_eq!(ddr.ddr_2x_clk().to_raw(), 24_000);
+    assert_eq!(io.ref_clk().to_raw(), 108_000);
+    assert_eq!(io.smc_clk().to_raw(), 108_000);
+    assert_eq!(io.qspi_clk().to_raw(), 54_000);
+    assert_eq!(io.sdio_clk().to_raw(), 36_000);
+    assert_eq!(io.uart_clk().to_raw(), 27_000);
+    assert_eq!(io.spi_clk().to_raw(), 21_600);
+    assert_eq!(io.can_clk().to_raw(), 18_000);
+    assert_eq!(io.pcap_2x_clk().to_raw(), 12_000);
+    assert_eq!(io.trace_clk().map(Hertz::to_raw), Some(13_500));
+    assert_eq!(evaluated(4).io_clocks().trace_clk(), None);
+    let fpga = clocks.pl_clocks().map(Hertz::to_raw);
+    assert_eq!(fpga, [18_000, 18_000, 21_600, 18_000]);
+}
+
+#[test]
+fn a_sequence_ends_in_every_way() {
+    let run = |config, limit, reads: &[u32]| {
+        configure_pll_unchecked(PllType::Io, BootPllConfig::Bypassed, config, limit, reads)
+    };
+    let config = PllConfig::new(13).expect("it is in the table");
+    let locked = run(config, 1, &[0, 0, 0b1000, 0, 0b100, 0x10]);
+    assert_eq!((locked.end, locked.log.len()), (Ok(End::Locked), 12));
+    assert_eq!(
+        locked.log[5],
+        Access::Write {
+            word: 2,
+            value: 0x10
+        }
+    );
+    let starved = run(config, 1, &[0, 0, 0]);
+    assert_eq!((starved.end, starved.log.len()), (Ok(End::Starved), 6));
+    let clear = run(config, 2, &[0, 0, 0, 0, 0b011, 0b011, 0b100, 0]);
+    assert_eq!(
+        (clear.end, clear.log.len()),
+        (Err(Refusal::LockTimeout), 11)
+    );
+    let wide = PllConfig::new_raw(128, 2, 6, 750);
+    assert_eq!(run(wide, 0, &[0]).end, Err(Refusal::BadLimit));
+    let refused = run(wide, 1, &[0]);
+    assert_eq!(
+        (refused.end, refused.log.len()),
+        (Err(Refusal::BadField), 0)
+    );
+}

@@ -1,0 +1,319 @@
+/* Calls every function of the archive from C: document 01's cases, each refusal with what it carries, rows too short, and words that
+ * have to stay. */
+#include "check.h"
+
+static void two_stage(void)
+{
+    ANSWERS(ogr_two_stage(1000000000, 12288000, 63, row, ROOM), 3, 27);
+    ANSWERS(ogr_two_stage(8, 3, 4, row, 2), 1, 2);
+    ANSWERS(ogr_two_stage(5, 1, 63, row, 2), 1, 5);
+    ANSWERS(ogr_two_stage(10, 100, 63, row, 2), 1, 1);
+    ANSWERS(ogr_two_stage(1000000, 1, 10, row, 2), 10, 10);
+    ANSWERS(ogr_two_stage(0, 7, 9, row, 2), 1, 1);
+    ANSWERS(ogr_two_stage(UINT32_MAX, 1, UINT32_MAX, row, 2), 1, UINT32_MAX);
+    REFUSES(ogr_two_stage(5, 0, 63, row, ROOM), 6, 0);
+    REFUSES(ogr_two_stage(5, 0, 0, row, ROOM), 6, 0);
+    REFUSES(ogr_two_stage(5, 1, 0, row, ROOM), 7, 0);
+    NO_ROOM(2, ogr_two_stage(8, 3, 4, row, len));
+    NO_ROOM(2, ogr_two_stage(8, 0, 0, row, len));
+    REFUSES(ogr_two_stage(8, 3, 4, NULL, 0), 9, 2);
+    GIVES(ogr_two_stage_frequency(1000000000, 3, 27), 12345679);
+    GIVES(ogr_two_stage_frequency(UINT32_MAX, 65536, 65536), 0);
+    GIVES(ogr_two_stage_frequency(UINT32_MAX, 1, 1), UINT32_MAX);
+    GIVES(ogr_two_stage_frequency(7, 0, 1), 0);
+    GIVES(ogr_two_stage_frequency(7, 1, 0), 0);
+}
+
+static void i2c(void)
+{
+    ANSWERS(ogr_i2c_divisors(111111111, false, row, ROOM), 0, 55);
+    ANSWERS(ogr_i2c_divisors(506880000, false, row, 2), 3, 63);
+    REFUSES(ogr_i2c_divisors(506880001, false, row, 2), 10, 0);
+    ANSWERS(ogr_i2c_divisors(2166067200, true, row, 2), 3, 63);
+    REFUSES(ogr_i2c_divisors(2166067201, true, row, 2), 10, 0);
+    NO_ROOM(2, ogr_i2c_divisors(111111111, false, row, len));
+    NO_ROOM(2, ogr_i2c_divisors(UINT32_MAX, true, row, len));
+    GIVES(ogr_i2c_speed(111111111, 0, 55), 90187);
+    GIVES(ogr_i2c_speed(22 * 256 * 256, 255, 255), 1);
+    GIVES(ogr_i2c_speed(22 * 256 * 256 - 1, 255, 255), 0);
+}
+
+static void ttc(void)
+{
+    ANSWERS(ogr_ttc(UINT32_MAX, 1, row, ROOM), 16, 65535);
+    ANSWERS(ogr_ttc(65535, 1, row, 2), 0, 65535);
+    ANSWERS(ogr_ttc(65536, 1, row, 2), 1, 32768);
+    ANSWERS(ogr_ttc(10, 11, row, 2), 0, 0);
+    REFUSES(ogr_ttc(10, 0, row, 2), 6, 0);
+    NO_ROOM(2, ogr_ttc(10, 11, row, len));
+    NO_ROOM(2, ogr_ttc(10, 0, row, len));
+}
+
+static void pll_settings(void)
+{
+    ANSWERS(ogr_pll_mul(13, row, ROOM), 13, 2, 6, 750);
+    ANSWERS(ogr_pll_mul(47, row, 4), 47, 3, 12, 250);
+    ANSWERS(ogr_pll_mul(66, row, 4), 66, 2, 4, 250);
+    REFUSES(ogr_pll_mul(12, row, 4), 5, 12);
+    REFUSES(ogr_pll_mul(67, row, 4), 5, 67);
+    REFUSES(ogr_pll_mul(UINT32_MAX, row, 4), 5, UINT32_MAX);
+    NO_ROOM(4, ogr_pll_mul(13, row, len));
+    NO_ROOM(4, ogr_pll_mul(12, row, len));
+    ANSWERS(ogr_pll_target(33333333, 1333333320, row, ROOM), 40, 2, 2, 250);
+    ANSWERS(ogr_pll_target(33333333, 1333333319, row, 4), 39, 2, 2, 250);
+    REFUSES(ogr_pll_target(0, 5, row, 4), 4, 0);
+    REFUSES(ogr_pll_target(1, UINT32_MAX, row, 4), 5, UINT32_MAX);
+    REFUSES(ogr_pll_target(33333333, 0, row, 4), 5, 0);
+    NO_ROOM(4, ogr_pll_target(33333333, 1333333320, row, len));
+    NO_ROOM(4, ogr_pll_target(0, 5, row, len));
+}
+
+struct plan {
+    uint8_t pll;
+    bool bypassed;
+    uint8_t fdiv, charge_pump, loop_resistor;
+    uint16_t lock_count, limit;
+};
+
+enum { ACCESSES = 20 };
+typedef uint32_t access[3];
+
+/* The accesses wanted stand at the front of the three rows, and all behind them is blank. */
+static void run_is(int line, struct plan p, const uint32_t *reads, size_t reads_len, const size_t room[3],
+                   uint64_t want, const access *accesses, size_t count)
+{
+    uint32_t rows[3][ACCESSES];
+    for (size_t i = 0; i < 3 * ACCESSES; i++)
+        rows[i / ACCESSES][i % ACCESSES] = BLANK;
+    const uint64_t got = ogr_pll_run(p.pll, p.bypassed, p.fdiv, p.charge_pump, p.loop_resistor, p.lock_count, p.limit,
+                                     reads, reads_len, rows[0], room[0], rows[1], room[1], rows[2], room[2]);
+    told(line, "ogr_pll_run", got, ogr_number(want), ogr_carried(want));
+    for (size_t i = 0; i < 3 * ACCESSES; i++) {
+        const size_t at = i / 3, part = i % 3;
+        same(line, "ogr_pll_run", "the log", rows[part][at], at < count ? accesses[at][part] : BLANK);
+    }
+}
+
+static uint64_t ends(uint32_t number, uint32_t carried) { return number | (uint64_t)carried << 32; }
+
+/* The DDR PLL, booted bypassed, sees another's lock bits and then its own. */
+static void pll_locks(void)
+{
+    const uint32_t reads[] = {UINT32_MAX, UINT32_MAX, UINT32_MAX, 0, 5, 2, 0x10};
+    const access log[] = {{0, 1, UINT32_MAX}, {1, 1, 0xFFFA8FFF}, {0, 5, UINT32_MAX}, {1, 5, 0xFFCFA22F}, {0, 1, UINT32_MAX},
+                          {1, 1, 0xFFFFFFF5}, {0, 1, 0}, {1, 1, 1}, {1, 1, 0}, {0, 3, 5}, {0, 3, 2}, {0, 1, 0x10}, {1, 1, 0}};
+    const struct plan plan = {OGR_PLL_DDR, true, 40, 2, 2, 250, 9};
+    const size_t enough[] = {OGR_MOST_ACCESSES(7), 13, ACCESSES};
+    run_is(__LINE__, plan, reads, 7, enough, ends(0, 13), log, 13);
+    for (size_t i = 0; i < 3; i++) {
+        size_t short_row[] = {13, 13, 13};
+        short_row[i] = 12;
+        run_is(__LINE__, plan, reads, 7, short_row, ends(OGR_NO_ROOM, 13), NULL, 0);
+    }
+}
+
+/* After two clear polls no more is asked for, and what was done stands. Where the words end, so does the run. */
+static void pll_does_not_lock(void)
+{
+    const uint32_t reads[] = {0, 5, 2, 0x10, 6, 0, 1, 0};
+    const access log[] = {{0, 0, 0}, {1, 0, 0xD000}, {0, 4, 5}, {1, 4, 0x2EE265}, {0, 0, 2}, {1, 0, 0x10},
+                          {0, 0, 0x10}, {1, 0, 0x11}, {1, 0, 0x10}, {0, 3, 6}, {0, 3, 0}};
+    const struct plan plan = {OGR_PLL_ARM, false, 13, 2, 6, 750, 2};
+    const size_t room[] = {11, 11, 11}, none[] = {0, 0, 0};
+    run_is(__LINE__, plan, reads, 8, room, ends(OGR_LOCK_TIMEOUT, 11), log, 11);
+    run_is(__LINE__, plan, reads, 8, none, ends(OGR_NO_ROOM, 11), NULL, 0);
+    run_is(__LINE__, plan, reads, 5, room, ends(OGR_STARVED, 10), log, 10);
+    run_is(__LINE__, plan, reads, 3, room, ends(OGR_STARVED, 6), log, 6);
+    run_is(__LINE__, plan, NULL, 0, none, ends(OGR_STARVED, 0), NULL, 0);
+}
+
+static void pll_is_not_started(void)
+{
+    const struct plan wide[] = {{OGR_PLL_IO, false, 128, 15, 15, 1023, 1}, {OGR_PLL_IO, false, 127, 16, 15, 1023, 1},
+                                {OGR_PLL_IO, false, 127, 15, 16, 1023, 1}, {OGR_PLL_IO, false, 127, 15, 15, 1024, 1},
+                                {3, false, 127, 15, 15, 1023, 1}};
+    const struct plan no_limit = {3, false, 128, 16, 16, 1024, 0}, widest = {OGR_PLL_IO, false, 127, 15, 15, 1023, 65535};
+    const uint32_t reads[] = {0, 0, 0, 0, 4, 0};
+    const size_t room[] = {12, 12, 12}, none[] = {0, 0, 0};
+    for (size_t i = 0; i < sizeof wide / sizeof *wide; i++) {
+        run_is(__LINE__, wide[i], reads, 6, room, OGR_BAD_FIELD, NULL, 0);
+        run_is(__LINE__, wide[i], reads, 6, none, OGR_BAD_FIELD, NULL, 0);
+    }
+    run_is(__LINE__, no_limit, reads, 6, room, OGR_BAD_LIMIT, NULL, 0);
+    run_is(__LINE__, widest, reads, 6, none, ends(OGR_NO_ROOM, 12), NULL, 0);
+}
+
+static void uart(void)
+{
+    ANSWERS(ogr_uart_best(48000, 9600, row, ROOM), 1, 4, 0);
+    ANSWERS(ogr_uart_best(24000, 9600, row, 3), 1, 4, 0x3F000000);
+    REFUSES(ogr_uart_best(23999, 9600, row, 3), 8, 0);
+    REFUSES(ogr_uart_best(48000, 0, row, 3), 8, 0);
+    NO_ROOM(3, ogr_uart_best(48000, 9600, row, len));
+    NO_ROOM(3, ogr_uart_best(23999, 9600, row, len));
+}
+
+#ifndef WITHOUT_LIST
+enum { RECORDS = 4 };
+static struct ogr_baud_divisors records[RECORDS];
+
+/* The pairs wanted stand at the front, and the records behind them are as they were lent. */
+static void list_is(int line, uint32_t reference, uint32_t baud, size_t room, uint32_t number, uint32_t carried,
+                    const struct ogr_baud_divisors *want, size_t count)
+{
+    const struct ogr_baud_divisors before = {0x5A5A, 0xA5, -1.0f};
+    for (size_t i = 0; i < RECORDS; i++)
+        records[i] = before;
+    told(line, "ogr_uart_list", ogr_uart_list(reference, baud, records, room), number, carried);
+    for (size_t i = 0; i < RECORDS; i++) {
+        const struct ogr_baud_divisors *wanted = i < count ? &want[i] : &before;
+        same(line, "ogr_uart_list", "cd", records[i].cd, wanted->cd);
+        same(line, "ogr_uart_list", "bdiv", records[i].bdiv, wanted->bdiv);
+        same(line, "ogr_uart_list", "the error", memcmp(&records[i].error, &wanted->error, sizeof(float)) == 0, true);
+    }
+}
+
+static void uart_list(void)
+{
+    const struct ogr_baud_divisors exact[] = {{2, 4, 0.0f}, {1, 9, 0.0f}};
+    const struct ogr_baud_divisors off[] = {{2, 4, 10.0f / 9600.0f}, {1, 9, 10.0f / 9600.0f}};
+    list_is(__LINE__, 96000, 9600, 4, 0, 2, exact, 2);
+    list_is(__LINE__, 96000, 9600, 2, 0, 2, exact, 2);
+    list_is(__LINE__, 96100, 9600, 3, 0, 2, off, 2);
+    list_is(__LINE__, 96000, 9600, 1, 9, 2, NULL, 0);
+    list_is(__LINE__, 96000, 9600, 0, 9, 2, NULL, 0);
+    list_is(__LINE__, 24000, 9600, 4, 0, 0, NULL, 0);
+    list_is(__LINE__, 96000, 0, 0, 0, 0, NULL, 0);
+}
+
+#else
+static void uart_list(void) {}
+#endif
+
+static uint32_t image[OGR_IMAGE_WORDS + 1];
+
+/* Every PLL times 1 and every divisor 1. */
+static void plain_image(void)
+{
+    const size_t used[] = {8, 16, 17, 18, 19, 20, 21, 22, 23, 25, 26, 28, 32, 36, 40};
+    memset(image, 0, sizeof image);
+    image[0] = image[1] = image[2] = 0x1000;
+    image[9] = 0x04100000;
+    for (size_t i = 0; i < sizeof used / sizeof *used; i++)
+        image[used[i]] = 0x00100100;
+}
+
+static void clocks(void)
+{
+    plain_image();
+    ANSWERS(ogr_clocks(1000, image, 50, row, ROOM), 1000, 1000, 1000, 1000, 0, 250, 500, 500, 1000, 1000, 1000, 1000, 1000,
+            1000, 1000, 1000, 1000, 1000, 1000, 1000, 1000, 1000, 1000, 1000, 1000, 0);
+    REFUSES(ogr_clocks(1000, image, 49, row, 26), 1, 0);
+    REFUSES(ogr_clocks(1000, image, 51, row, 26), 1, 0);
+    REFUSES(ogr_clocks(1000, NULL, 0, row, 26), 1, 0);
+    NO_ROOM(26, ogr_clocks(1000, image, 50, row, len));
+    NO_ROOM(26, ogr_clocks(1000, image, 49, row, len));
+    image[0] = 0x2000;
+    image[1] = 0x3000;
+    image[2] = 0x5000;
+    image[8] = 0x00000230;
+    image[23] = 0x00300220;
+    image[25] = 0x00000170;
+    image[28] = 0x01B00300;
+    image[36] = 0x00200130;
+    image[49] = 1;
+    ANSWERS(ogr_clocks(100, image, 50, row, 26), 200, 500, 300, 200, 1, 41, 83, 125, 250, 300, 300, 300, 500,
+            500, 500, 500, 500, 500, 33, 500, 0, 6, 500, 150, 500, 1);
+    plain_image();
+    image[28] = 0x01B00300;
+    blank_row();
+    GIVES(ogr_clocks(1000000000, image, 50, row, 26), 0);
+    GIVES(row[OGR_CLOCK_FPGA0], 12345679);
+    image[1] = 127 << 12;
+    GIVES(ogr_clocks(33818640, image, 50, row, 26), 0);
+    GIVES(row[OGR_CLOCK_DDR_2X], 4294967280);
+    REFUSES(ogr_clocks(33818641, image, 50, row, 26), 3, 0);
+}
+
+/* Zeros come in from the last checked field to the first, and each one takes the blame from those after it. */
+static void zero_divisors(void)
+{
+    static const struct { uint8_t word, bit, module; } fields[] = {
+        {40, 20, 10}, {40, 8, 10}, {36, 20, 10}, {36, 8, 10}, {32, 20, 10}, {32, 8, 10}, {28, 20, 10}, {28, 8, 10},
+        {25, 8, 11}, {23, 20, 9}, {23, 8, 9}, {26, 8, 8}, {22, 8, 7}, {21, 8, 6}, {20, 8, 5}, {19, 8, 4}, {18, 8, 3},
+        {9, 26, 1}, {9, 20, 1}, {8, 8, 2}};
+    plain_image();
+    image[25] |= 0x40;
+    for (size_t i = 0; i < sizeof fields / sizeof *fields; i++) {
+        image[fields[i].word] &= ~(UINT32_C(63) << fields[i].bit);
+        REFUSES(ogr_clocks(1000, image, 50, row, 26), 2, fields[i].module);
+    }
+    image[0] = 2 << 12;
+    REFUSES(ogr_clocks(UINT32_MAX, image, 50, row, 26), 3, 0);
+    image[1] = 0;
+    REFUSES(ogr_clocks(UINT32_MAX, image, 50, row, 26), 2, 0);
+}
+
+static void gem(void)
+{
+    plain_image();
+    image[0] = 0x2000;
+    image[1] = 0x3000;
+    image[16] = 0x00200360;
+    GIVES(ogr_gem(false, 100, image, 50), UINT64_C(33) << 32);
+    GIVES(ogr_gem(true, 100, image, 50), UINT64_C(100) << 32);
+    image[16] = 0x00200020;
+    REFUSES(ogr_gem(false, 100, image, 50), 2, 12);
+    image[17] = 0x00000100;
+    REFUSES(ogr_gem(true, 100, image, 50), 2, 13);
+    REFUSES(ogr_gem(true, UINT32_MAX, image, 50), 3, 0);
+    REFUSES(ogr_gem(false, 100, image, 49), 1, 0);
+    image[25] = 0;
+    REFUSES(ogr_gem(true, 100, image, 50), 2, 11);
+}
+
+static void io_update(void)
+{
+    const uint32_t first = OGR_CLOCK_SMC;
+    for (uint32_t which = OGR_IO_SMC; which <= OGR_IO_PCAP; which++) {
+        uint32_t want[OGR_CLOCK_WORDS];
+        for (size_t i = 0; i < OGR_CLOCK_WORDS; i++)
+            want[i] = i == first + which ? 77 : BLANK;
+        blank_row();
+        told(__LINE__, "ogr_io_update", ogr_io_update(which, 77, row, OGR_CLOCK_WORDS), 0, 0);
+        row_is(__LINE__, "ogr_io_update", want, OGR_CLOCK_WORDS);
+    }
+    REFUSES(ogr_io_update(7, 77, row, 26), 20, 0);
+    REFUSES(ogr_io_update(UINT32_MAX, 77, row, 26), 20, 0);
+    NO_ROOM(26, ogr_io_update(OGR_IO_UART, 77, row, len));
+    NO_ROOM(26, ogr_io_update(7, 77, row, len));
+}
+
+static void set_up(void)
+{
+    ANSWERS(ogr_cpu_init(1333333320, true, 2, row, ROOM), 111111110, 222222220, 333333330, 666666660);
+    ANSWERS(ogr_cpu_init(1000, false, 3, row, 4), 83, 166, 166, 333);
+    ANSWERS(ogr_cpu_init(UINT32_MAX, false, 1, row, 4), 1073741823, 2147483646, 2147483646, UINT32_MAX);
+    REFUSES(ogr_cpu_init(1000, true, 0, row, 4), 2, 2);
+    REFUSES(ogr_cpu_init(1000, true, 64, row, 4), 20, 0);
+    NO_ROOM(4, ogr_cpu_init(1000, true, 1, row, len));
+    NO_ROOM(4, ogr_cpu_init(1000, true, 0, row, len));
+    ANSWERS(ogr_ddr_init(1000, 2, 3, row, ROOM), 500, 333);
+    ANSWERS(ogr_ddr_init(UINT32_MAX, 63, 1, row, 2), 68174084, UINT32_MAX);
+    REFUSES(ogr_ddr_init(1000, 0, 64, row, 2), 2, 1);
+    REFUSES(ogr_ddr_init(1000, 64, 0, row, 2), 2, 1);
+    REFUSES(ogr_ddr_init(1000, 64, 1, row, 2), 20, 0);
+    REFUSES(ogr_ddr_init(1000, 1, 64, row, 2), 20, 0);
+    NO_ROOM(2, ogr_ddr_init(1000, 2, 3, row, len));
+    NO_ROOM(2, ogr_ddr_init(1000, 0, 64, row, len));
+}
+
+int main(void)
+{
+    void (*const all[])(void) = {two_stage, i2c, ttc, pll_settings, pll_locks, pll_does_not_lock, pll_is_not_started,
+                                 uart, uart_list, clocks, zero_divisors, gem, io_update, set_up};
+    for (size_t i = 0; i < sizeof all / sizeof *all; i++)
+        all[i]();
+    printf("calls.c: %d checks, %d failed\n", checks, failures);
+    return failures != 0;
+}

@@ -1,0 +1,46 @@
+# The prototypes that the exported functions of Rattle sources have in C (-v to=c) or Rust (-v to=rust), a line each.
+# A slice `x: &[T]` passes as a pointer x and a length x_len.
+
+function trim(s) { gsub(/^[ \t]+|[ \t]+$/, "", s); return s }
+
+function c_type(t) {
+    if (t == "bool") return "bool"
+    if (t == "f32") return "float"
+    if (t ~ /^u(8|16|32|64)$/) return "uint" substr(t, 2) "_t"
+    if (t == "BaudDivisors") return "struct ogr_baud_divisors"
+    return unknown(t)
+}
+
+function unknown(t) {
+    print FILENAME ": there is no C type for " t > "/dev/stderr"
+    bad = 1
+    return t
+}
+
+function parameter(name, t,    const) {
+    if (t !~ /^&/) return to == "c" ? c_type(t) " " name : name ": " t
+    const = t !~ /^&mut /
+    gsub(/^&(mut )?\[|\]$/, "", t)
+    if (to == "c") return (const ? "const " : "") c_type(t) " *" name ", size_t " name "_len"
+    return name ": *" (const ? "const " : "mut ") t ", " name "_len: usize"
+}
+
+function prototype(text,    name, given, parts, n, i, half, all) {
+    name = text; sub(/.* fn /, "", name); sub(/\(.*/, "", name)
+    given = text; sub(/.*->/, "", given); given = trim(given)
+    sub(/^[^(]*\(/, "", text); sub(/\)[^)]*$/, "", text)
+    n = split(text, parts, ",")
+    for (i = 1; i <= n; i++) {
+        if (trim(parts[i]) == "") continue
+        split(parts[i], half, ":")
+        all = all (all == "" ? "" : ", ") parameter(trim(half[1]), trim(half[2]))
+    }
+    if (to == "c") print c_type(given) " " name "(" all ")"
+    else print "fn " name "(" all ") -> " given
+}
+
+# A signature ends where its contract or its body begins.
+gathering && /^[ \t]*(ensures|requires|\{)/ { prototype(gathered); gathering = 0 }
+/pub extern "C" fn / { gathering = 1; gathered = "" }
+gathering { gathered = gathered " " $0 }
+END { exit bad }
