@@ -3,9 +3,8 @@ use std::env;
 
 fn main() {
     println!("cargo::rerun-if-changed=build.rs");
-    println!("cargo::rustc-check-cfg=cfg(original, archive, uart_list)");
+    println!("cargo::rustc-check-cfg=cfg(original, archive)");
     let found = [
-        ("DEP_OGRUSPINU_ARCHIVE_UART_LIST", "uart_list"),
         ("DEP_ZYNQ7000_RS_ORIGINAL_AT_HAND", "original"),
         ("DEP_OGRUSPINU_ARCHIVE_AT_HAND", "archive"),
     ];

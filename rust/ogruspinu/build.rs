@@ -12,7 +12,7 @@ const CRATE: &str = "archive";
 const FILE: &str = "target/staticlib/libarchive.a";
 
 fn main() {
-    println!("cargo::rustc-check-cfg=cfg(archive, uart_list)");
+    println!("cargo::rustc-check-cfg=cfg(archive)");
     println!("cargo::rerun-if-changed=build.rs");
     let here = PathBuf::from(env::var_os("CARGO_MANIFEST_DIR").expect("cargo names its folder"));
     let top = here.join("../..");
@@ -23,32 +23,11 @@ fn main() {
         make(&top);
     }
     match file.canonicalize() {
-        Ok(file) => {
-            link(&file);
-            tell_of_the_list(&crates);
-        }
+        Ok(file) => link(&file),
         Err(_) => println!(
             "cargo::warning=there is no {FILE}: `rt staticlib {CRATE}` makes it at the repository's top, with the \
              Rattle toolchain on PATH. What needs it is left out."
         ),
-    }
-}
-
-/// The list of viable pairs is left out as long as the library does not export it.
-fn tell_of_the_list(crates: &Path) {
-    let sources = fs::read_dir(crates.join(CRATE).join("src"));
-    let mut texts = sources
-        .into_iter()
-        .flatten()
-        .flatten()
-        .map(|entry| fs::read_to_string(entry.path()).unwrap_or_default());
-    if texts.any(|text| text.contains("fn ogr_uart_list(")) {
-        println!("cargo::rustc-cfg=uart_list");
-        println!("cargo::metadata=uart_list=1");
-    } else {
-        println!(
-            "cargo::warning=the library does not export ogr_uart_list: the list of viable pairs is left out"
-        );
     }
 }
 

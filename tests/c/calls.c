@@ -153,7 +153,6 @@ static void uart(void)
     NO_ROOM(3, ogr_uart_best(23999, 9600, row, len));
 }
 
-#ifndef WITHOUT_LIST
 enum { RECORDS = 4 };
 static struct ogr_baud_divisors records[RECORDS];
 
@@ -185,10 +184,6 @@ static void uart_list(void)
     list_is(__LINE__, 24000, 9600, 4, 0, 0, NULL, 0);
     list_is(__LINE__, 96000, 0, 0, 0, 0, NULL, 0);
 }
-
-#else
-static void uart_list(void) {}
-#endif
 
 static uint32_t image[OGR_IMAGE_WORDS + 1];
 

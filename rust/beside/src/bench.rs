@@ -97,7 +97,7 @@ fn timed(request: &Request) -> bool {
     *subject != Subject::PllSeq || numbers.len() == 13 && at_once(&numbers[11])
 }
 
-/// One line for each call: the median ratio, its spread (the middle half and the ends), and both times.
+/// One line for each call that both sides have: the median ratio, its spread (the middle half and the ends), both times.
 pub fn run(subjects: &[Subject], seed: u64, count: usize, rounds: usize, rust: Timed, ours: Timed) {
     println!(
         "{:15} {:>7}  {:15}  {:15}  {:>10} {:>10}",
@@ -114,7 +114,9 @@ pub fn run(subjects: &[Subject], seed: u64, count: usize, rounds: usize, rust: T
             one_round(round, subject, &inputs, rust, ours)
         };
         let times: Vec<(f64, f64)> = (0..rounds).filter_map(round).collect();
-        println!("{:15} {}", subject.name(), line(&times, inputs.calls()));
+        if !times.is_empty() {
+            println!("{:15} {}", subject.name(), line(&times, inputs.calls()));
+        }
     }
 }
 

@@ -1,11 +1,8 @@
 //! Our answers, through the static library, with an eye on every lent word.
 use crate::answer::{Answer, CRAMPED, STARVED, STRAY};
 use crate::request::{Request, Subject};
-use crate::side::Side;
-#[cfg(uart_list)]
-use crate::side::UNTOUCHED;
+use crate::side::{Side, UNTOUCHED};
 use ogruspinu::raw::{self, PllLog, PllPlan, halves};
-#[cfg(uart_list)]
 use ogruspinu::uart::BaudDivisors;
 
 pub struct Ours;
@@ -21,7 +18,7 @@ const WRITES: usize = 7;
 
 /// Whether there is an exported function to ask.
 pub fn exported(subject: Subject) -> bool {
-    subject != Subject::Starts && (cfg!(uart_list) || subject != Subject::UartList)
+    subject != Subject::Starts
 }
 
 impl Side for Ours {
@@ -37,7 +34,6 @@ impl Side for Ours {
             Subject::PllMul => words::<4>(|out| raw::pll_mul(n[0], out)),
             Subject::PllTarget => words::<4>(|out| raw::pll_target(n[0], n[1], out)),
             Subject::Uart => words::<3>(|out| raw::uart_best(n[0], n[1], out)),
-            #[cfg(uart_list)]
             Subject::UartList => list(n[0], n[1], n[2] as usize),
             Subject::Clocks => words::<CLOCKS>(|out| raw::clocks(n[0], request.words(), out)),
             Subject::Gem => number(raw::gem(n[0] == 1, n[1], request.words())),
@@ -45,8 +41,6 @@ impl Side for Ours {
             Subject::CpuInit => words::<4>(|out| raw::cpu_init(n[0], n[1] == 1, n[2], out)),
             Subject::DdrInit => words::<2>(|out| raw::ddr_init(n[0], n[1], n[2], out)),
             Subject::PllSeq => sequence(n, request.words()),
-            #[cfg(not(uart_list))]
-            Subject::UartList => unreachable!("it is not exported"),
             Subject::Starts => unreachable!("it is not exported"),
         }
     }
@@ -90,7 +84,6 @@ fn words<const N: usize>(call: impl Fn(&mut [u32]) -> u64) -> Answer {
     }
 }
 
-#[cfg(uart_list)]
 fn list(reference: u32, baud: u32, room: usize) -> Answer {
     let [cd, bdiv, error] = UNTOUCHED;
     let untouched = BaudDivisors {

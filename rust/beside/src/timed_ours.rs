@@ -11,9 +11,7 @@ use ogruspinu::pll::PllConfig;
 use ogruspinu::raw::{self, PllLog};
 use ogruspinu::time::Hertz;
 use ogruspinu::ttc::calc_prescaler_reg_and_interval_ticks;
-use ogruspinu::uart::best_baud_divisors;
-#[cfg(uart_list)]
-use ogruspinu::uart::{BaudDivisors, MOST_PAIRS, viable_baud_divisors_into};
+use ogruspinu::uart::{BaudDivisors, MOST_PAIRS, best_baud_divisors, viable_baud_divisors_into};
 use std::cell::RefCell;
 
 /// Accesses of a sequence that locks at the first poll.
@@ -47,7 +45,6 @@ pub fn timed(subject: Subject, inputs: &Inputs) -> Option<Pass> {
             let best = best_baud_divisors(hertz(n[0]), n[1]);
             best.map_or(0, |best| best.error.to_bits())
         }),
-        #[cfg(uart_list)]
         Subject::UartList => list(inputs),
         _ => return timed_clocks(subject, inputs),
     })
@@ -93,7 +90,6 @@ fn first(clock: Result<Hertz, Refusal>) -> u32 {
 }
 
 /// The records are lent again and again, as a program would; the original allocates its vector each time.
-#[cfg(uart_list)]
 fn list(inputs: &Inputs) -> Pass {
     let records = RefCell::new([BaudDivisors::default(); MOST_PAIRS]);
     inputs.each(|n| {

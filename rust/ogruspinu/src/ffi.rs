@@ -1,6 +1,5 @@
 //! What the static library exports. Nothing else in Rust names its functions, and `tests/c/run` at the repository's
 //! top holds this list to the library's source. `include/ogruspinu.h` says what each one does.
-#[cfg(uart_list)]
 use crate::uart::BaudDivisors;
 
 unsafe extern "C" {
@@ -35,7 +34,6 @@ unsafe extern "C" {
         values_len: usize,
     ) -> u64;
     pub fn ogr_uart_best(reference: u32, baud: u32, out: *mut u32, out_len: usize) -> u64;
-    #[cfg(uart_list)]
     pub fn ogr_uart_list(
         reference: u32,
         baud: u32,

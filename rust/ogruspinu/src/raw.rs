@@ -10,7 +10,6 @@
 //! assert_eq!(ogruspinu::raw::halves(told), (9, 2));
 //! ```
 use crate::ffi;
-#[cfg(uart_list)]
 use crate::uart::BaudDivisors;
 
 /// The lower half, 0 or a refusal's number, and the upper: what the refusal carries, or an answer of one number.
@@ -67,7 +66,6 @@ pub fn i2c_speed(input: u32, div_a: u8, div_b: u8) -> u32 {
 }
 
 /// The upper half is how many viable pairs were written.
-#[cfg(uart_list)]
 #[inline]
 pub fn uart_list(reference: u32, baud: u32, records: &mut [BaudDivisors]) -> u64 {
     // SAFETY: the slice is lent for the call, with its own length, and its records have C's layout.

@@ -1,8 +1,6 @@
 //! UART divisors: the baud rate is the reference clock over cd (bdiv + 1).
 use crate::raw;
-#[cfg(uart_list)]
-use crate::refusal::told;
-use crate::refusal::{Refusal, words};
+use crate::refusal::{Refusal, told, words};
 use crate::time::Hertz;
 
 /// Pairs with an error below this are viable (0.5 %).
@@ -54,7 +52,6 @@ pub fn best_baud_divisors(ref_clk: Hertz, target_baud: u32) -> Result<BaudDiviso
 /// let pairs: Vec<(u16, u8)> = viable.iter().map(|pair| (pair.cd, pair.bdiv)).collect();
 /// assert_eq!(pairs, [(2, 4), (1, 9)]);
 /// ```
-#[cfg(uart_list)]
 pub fn viable_baud_divisors(ref_clk: Hertz, target_baud: u32) -> Vec<BaudDivisors> {
     let mut records = [BaudDivisors::default(); MOST_PAIRS];
     let count = viable_baud_divisors_into(ref_clk, target_baud, &mut records);
@@ -75,7 +72,6 @@ pub fn viable_baud_divisors(ref_clk: Hertz, target_baud: u32) -> Vec<BaudDivisor
 /// assert_eq!(short, Err(Refusal::NoRoom(2)));
 /// # Ok::<(), Refusal>(())
 /// ```
-#[cfg(uart_list)]
 #[inline]
 pub fn viable_baud_divisors_into(
     ref_clk: Hertz,
