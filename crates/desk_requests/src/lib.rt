@@ -8,6 +8,7 @@ use desk_divisors::answer_ttc;
 use desk_divisors::answer_two_stage;
 use desk_pll::answer_pll_mul;
 use desk_pll::answer_pll_target;
+use desk_sequence::answer_pll_seq;
 use desk_uart::answer_uart;
 use desk_uart::answer_uart_list;
 use desk_words::Named;
@@ -28,7 +29,7 @@ pub fn answer_request(line: &[u8], out: &mut [u8], at: usize) -> usize
     match read_name(
         line,
         0,
-        b"two-stage i2c i2c-speed ttc pll-target pll-mul uart uart-list help",
+        b"two-stage i2c i2c-speed ttc pll-target pll-mul uart uart-list pll-seq help",
     ) {
         Named::Bad(fault) => put_fault(1, fault, out, at),
         Named::Name(i, next) => answer_named(i, line, next, out, at),
@@ -50,6 +51,7 @@ fn answer_named(i: usize, line: &[u8], from: usize, out: &mut [u8], at: usize) -
         5 => answer_pll_mul(line, from, out, at),
         6 => answer_uart(line, from, out, at),
         7 => answer_uart_list(line, from, out, at),
+        8 => answer_pll_seq(line, from, out, at),
         _ => answer_help(line, from, out, at),
     }
 }

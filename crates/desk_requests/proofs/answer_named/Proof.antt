@@ -32,6 +32,9 @@ answer-uart-requires c κs = search needs
 answer-uart-list-requires : tie.Need-answer-uart-list-requires
 answer-uart-list-requires c κs = search needs
 
+answer-pll-seq-requires : tie.Need-answer-pll-seq-requires
+answer-pll-seq-requires c κs = search needs
+
 answer-help-requires : tie.Need-answer-help-requires
 answer-help-requires c κs = search needs
 
@@ -86,22 +89,29 @@ returns-8 c = answers 7 (λ t e r. Answer.uart-list _ e r) (c .before .before .b
 same-length-9 : tie.Need-same-length-9
 same-length-9 c = search needs
 
+returns-9 : tie.Need-returns-9
+returns-9 c = answers 8 (λ t e r. Answer.pll-seq _ e r) (c .before .before .before .before .before .before .before .pre .1) (c .before .before .before .before .match .keys9) (c .before .before .answer-pll-seq .ensures)
+
+same-length-10 : tie.Need-same-length-10
+same-length-10 c = search needs
+
 -- no other name is left
-the-last : (c : tie.After-slice-known10) → c .before .before .before .before .before .before .before .args .i ≡ 8
+the-last : (c : tie.After-slice-known11) → c .before .before .before .before .before .before .before .args .i ≡ 9
 the-last c =
     let r = c .before .before .before .before .match .rest in
-    let h1 = above 0 zero-le (r .0 .0 .0 .0 .0 .0 .0 .1) in
-    let h2 = above 1 h1 (r .0 .0 .0 .0 .0 .0 .1) in
-    let h3 = above 2 h2 (r .0 .0 .0 .0 .0 .1) in
-    let h4 = above 3 h3 (r .0 .0 .0 .0 .1) in
-    let h5 = above 4 h4 (r .0 .0 .0 .1) in
-    let h6 = above 5 h5 (r .0 .0 .1) in
-    let h7 = above 6 h6 (r .0 .1) in
-    let h8 = above 7 h7 (r .1) in
+    let h1 = above 0 zero-le (r .0 .0 .0 .0 .0 .0 .0 .0 .1) in
+    let h2 = above 1 h1 (r .0 .0 .0 .0 .0 .0 .0 .1) in
+    let h3 = above 2 h2 (r .0 .0 .0 .0 .0 .0 .1) in
+    let h4 = above 3 h3 (r .0 .0 .0 .0 .0 .1) in
+    let h5 = above 4 h4 (r .0 .0 .0 .0 .1) in
+    let h6 = above 5 h5 (r .0 .0 .0 .1) in
+    let h7 = above 6 h6 (r .0 .0 .1) in
+    let h8 = above 7 h7 (r .0 .1) in
+    let h9 = above 8 h8 (r .1) in
     omega (arith, place-below (c .before .before .before .before .before .before .before .pre .1))
 
-returns-9 : tie.Need-returns-9
-returns-9 c = answers 8 (λ t e r. Answer.help _ e r) (c .before .before .before .before .before .before .before .pre .1) (the-last c) (c .before .before .answer-help .ensures)
+returns-10 : tie.Need-returns-10
+returns-10 c = answers 9 (λ t e r. Answer.help _ e r) (c .before .before .before .before .before .before .before .pre .1) (the-last c) (c .before .before .answer-help .ensures)
 
 pub answer-named-spec : {M : Type 1} → statement M
 answer-named-spec =
@@ -115,6 +125,7 @@ answer-named-spec =
     answer-pll-mul-requires
     answer-uart-requires
     answer-uart-list-requires
+    answer-pll-seq-requires
     answer-help-requires
     same-length
     returns
@@ -133,4 +144,6 @@ answer-named-spec =
     same-length-8
     returns-8
     same-length-9
-    returns-9)
+    returns-9
+    same-length-10
+    returns-10)

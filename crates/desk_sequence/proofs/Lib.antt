@@ -1,0 +1,5 @@
+pub mod Bound
+pub mod Reading
+pub mod Writing
+pub mod Running
+pub mod Replying
