@@ -11,10 +11,11 @@ use Rattle.desk_divisors.specs.Requests.{TwoStageReply, I2cReply, SpeedReply, T
 use Rattle.desk_pll.specs.Requests.{TargetReply, MulReply}
 use Rattle.desk_uart.specs.Requests.{UartReply, ListReply}
 use Rattle.desk_sequence.specs.Requests.{SequenceReply}
+use Rattle.desk_setup.specs.Requests.{CpuReply, DdrReply}
 use Rattle.desk_requests.specs.Help.{HelpReply}
 
 abbrev pub names : List (List ℕ)
-names = words (bytes "two-stage i2c i2c-speed ttc pll-target pll-mul uart uart-list pll-seq help")
+names = words (bytes "two-stage i2c i2c-speed ttc pll-target pll-mul uart uart-list pll-seq cpu-init ddr-init help")
 
 pub data Answer (line : List (List ℕ)) (text : List ℕ) : Type 0 where
   two-stage : (rest : List (List ℕ)) → line ≡ bytes "two-stage" ∷ rest → TwoStageReply rest text → Answer line text
@@ -26,5 +27,7 @@ pub data Answer (line : List (List ℕ)) (text : List ℕ) : Type 0 where
   uart : (rest : List (List ℕ)) → line ≡ bytes "uart" ∷ rest → UartReply rest text → Answer line text
   uart-list : (rest : List (List ℕ)) → line ≡ bytes "uart-list" ∷ rest → ListReply rest text → Answer line text
   pll-seq : (rest : List (List ℕ)) → line ≡ bytes "pll-seq" ∷ rest → SequenceReply rest text → Answer line text
+  cpu-init : (rest : List (List ℕ)) → line ≡ bytes "cpu-init" ∷ rest → CpuReply rest text → Answer line text
+  ddr-init : (rest : List (List ℕ)) → line ≡ bytes "ddr-init" ∷ rest → DdrReply rest text → Answer line text
   help : (rest : List (List ℕ)) → line ≡ bytes "help" ∷ rest → HelpReply rest text → Answer line text
   no-request : (f : Fault) → Name names line (fault f) → text ≡ complaint 1 f → Answer line text

@@ -9,6 +9,8 @@ use desk_divisors::answer_two_stage;
 use desk_pll::answer_pll_mul;
 use desk_pll::answer_pll_target;
 use desk_sequence::answer_pll_seq;
+use desk_setup::answer_cpu_init;
+use desk_setup::answer_ddr_init;
 use desk_uart::answer_uart;
 use desk_uart::answer_uart_list;
 use desk_words::Named;
@@ -29,7 +31,7 @@ pub fn answer_request(line: &[u8], out: &mut [u8], at: usize) -> usize
     match read_name(
         line,
         0,
-        b"two-stage i2c i2c-speed ttc pll-target pll-mul uart uart-list pll-seq help",
+        b"two-stage i2c i2c-speed ttc pll-target pll-mul uart uart-list pll-seq cpu-init ddr-init help",
     ) {
         Named::Bad(fault) => put_fault(1, fault, out, at),
         Named::Name(i, next) => answer_named(i, line, next, out, at),
@@ -52,6 +54,8 @@ fn answer_named(i: usize, line: &[u8], from: usize, out: &mut [u8], at: usize) -
         6 => answer_uart(line, from, out, at),
         7 => answer_uart_list(line, from, out, at),
         8 => answer_pll_seq(line, from, out, at),
+        9 => answer_cpu_init(line, from, out, at),
+        10 => answer_ddr_init(line, from, out, at),
         _ => answer_help(line, from, out, at),
     }
 }

@@ -35,6 +35,12 @@ answer-uart-list-requires c κs = search needs
 answer-pll-seq-requires : tie.Need-answer-pll-seq-requires
 answer-pll-seq-requires c κs = search needs
 
+answer-cpu-init-requires : tie.Need-answer-cpu-init-requires
+answer-cpu-init-requires c κs = search needs
+
+answer-ddr-init-requires : tie.Need-answer-ddr-init-requires
+answer-ddr-init-requires c κs = search needs
+
 answer-help-requires : tie.Need-answer-help-requires
 answer-help-requires c κs = search needs
 
@@ -95,23 +101,37 @@ returns-9 c = answers 8 (λ t e r. Answer.pll-seq _ e r) (c .before .before .bef
 same-length-10 : tie.Need-same-length-10
 same-length-10 c = search needs
 
+returns-10 : tie.Need-returns-10
+returns-10 c = answers 9 (λ t e r. Answer.cpu-init _ e r) (c .before .before .before .before .before .before .before .pre .1) (c .before .before .before .before .match .keys10) (c .before .before .answer-cpu-init .ensures)
+
+same-length-11 : tie.Need-same-length-11
+same-length-11 c = search needs
+
+returns-11 : tie.Need-returns-11
+returns-11 c = answers 10 (λ t e r. Answer.ddr-init _ e r) (c .before .before .before .before .before .before .before .pre .1) (c .before .before .before .before .match .keys11) (c .before .before .answer-ddr-init .ensures)
+
+same-length-12 : tie.Need-same-length-12
+same-length-12 c = search needs
+
 -- no other name is left
-the-last : (c : tie.After-slice-known11) → c .before .before .before .before .before .before .before .args .i ≡ 9
+the-last : (c : tie.After-slice-known13) → c .before .before .before .before .before .before .before .args .i ≡ 11
 the-last c =
     let r = c .before .before .before .before .match .rest in
-    let h1 = above 0 zero-le (r .0 .0 .0 .0 .0 .0 .0 .0 .1) in
-    let h2 = above 1 h1 (r .0 .0 .0 .0 .0 .0 .0 .1) in
-    let h3 = above 2 h2 (r .0 .0 .0 .0 .0 .0 .1) in
-    let h4 = above 3 h3 (r .0 .0 .0 .0 .0 .1) in
-    let h5 = above 4 h4 (r .0 .0 .0 .0 .1) in
-    let h6 = above 5 h5 (r .0 .0 .0 .1) in
-    let h7 = above 6 h6 (r .0 .0 .1) in
-    let h8 = above 7 h7 (r .0 .1) in
-    let h9 = above 8 h8 (r .1) in
+    let h1 = above 0 zero-le (r .0 .0 .0 .0 .0 .0 .0 .0 .0 .0 .1) in
+    let h2 = above 1 h1 (r .0 .0 .0 .0 .0 .0 .0 .0 .0 .1) in
+    let h3 = above 2 h2 (r .0 .0 .0 .0 .0 .0 .0 .0 .1) in
+    let h4 = above 3 h3 (r .0 .0 .0 .0 .0 .0 .0 .1) in
+    let h5 = above 4 h4 (r .0 .0 .0 .0 .0 .0 .1) in
+    let h6 = above 5 h5 (r .0 .0 .0 .0 .0 .1) in
+    let h7 = above 6 h6 (r .0 .0 .0 .0 .1) in
+    let h8 = above 7 h7 (r .0 .0 .0 .1) in
+    let h9 = above 8 h8 (r .0 .0 .1) in
+    let h10 = above 9 h9 (r .0 .1) in
+    let h11 = above 10 h10 (r .1) in
     omega (arith, place-below (c .before .before .before .before .before .before .before .pre .1))
 
-returns-10 : tie.Need-returns-10
-returns-10 c = answers 9 (λ t e r. Answer.help _ e r) (c .before .before .before .before .before .before .before .pre .1) (the-last c) (c .before .before .answer-help .ensures)
+returns-12 : tie.Need-returns-12
+returns-12 c = answers 11 (λ t e r. Answer.help _ e r) (c .before .before .before .before .before .before .before .pre .1) (the-last c) (c .before .before .answer-help .ensures)
 
 pub answer-named-spec : {M : Type 1} → statement M
 answer-named-spec =
@@ -126,6 +146,8 @@ answer-named-spec =
     answer-uart-requires
     answer-uart-list-requires
     answer-pll-seq-requires
+    answer-cpu-init-requires
+    answer-ddr-init-requires
     answer-help-requires
     same-length
     returns
@@ -146,4 +168,8 @@ answer-named-spec =
     same-length-9
     returns-9
     same-length-10
-    returns-10)
+    returns-10
+    same-length-11
+    returns-11
+    same-length-12
+    returns-12)

@@ -1,0 +1,66 @@
+-- `desk_setup::answer_ddr_init` meets its contract.
+use borrow.Author.Needs.{needs}
+use Rattle.desk_answers.proofs.Replying.{faulted, replied}
+use Rattle.desk_setup.proofs.answer_ddr_init.Statement.{statement}
+use Rattle.desk_setup.proofs.answer_ddr_init.Tie as tie
+
+slice-aggregate-only-numbers : tie.Need-slice-aggregate-only-numbers
+slice-aggregate-only-numbers c = search needs
+
+only-numbers-requires : tie.Need-only-numbers-requires
+only-numbers-requires c κs = search needs
+
+enum-known-word : tie.Need-enum-known-word
+enum-known-word c = search needs
+
+put-fault-requires : tie.Need-put-fault-requires
+put-fault-requires c κs = search needs
+
+enum-told : tie.Need-enum-told
+enum-told c = search needs
+
+array-read-new-with-2x-3x-init : tie.Need-array-read-new-with-2x-3x-init
+array-read-new-with-2x-3x-init c = search needs
+
+array-read-new-with-2x-3x-init-2 : tie.Need-array-read-new-with-2x-3x-init-2
+array-read-new-with-2x-3x-init-2 c = search needs
+
+array-read-new-with-2x-3x-init-3 : tie.Need-array-read-new-with-2x-3x-init-3
+array-read-new-with-2x-3x-init-3 c = search needs
+
+new-with-2x-3x-init-requires : tie.Need-new-with-2x-3x-init-requires
+new-with-2x-3x-init-requires c κs = search needs
+
+tell-ddr-requires : tie.Need-tell-ddr-requires
+tell-ddr-requires c κs = search needs
+
+same-length : tie.Need-same-length
+same-length c = search needs
+
+returns : tie.Need-returns
+returns c = faulted _ _ (c .before .before .before .before .before .before .before .before .only-numbers .ensures) (c .before .before .before .before .before .word .given .1) (c .before .before .put-fault .ensures)
+
+same-length-2 : tie.Need-same-length-2
+same-length-2 c = search needs
+
+returns-2 : tie.Need-returns-2
+returns-2 c = replied _ _ (c .before .before .before .before .before .before .before .before .only-numbers .ensures) _ (c .before .before .before .before .before .enum-told .given .1) (c .before .before .before .before .new-with-2x-3x-init .ensures) (c .before .before .tell-ddr .ensures)
+
+pub answer-ddr-init-spec : {M : Type 1} → statement M
+answer-ddr-init-spec =
+    tie.close
+    (tie.spec
+    slice-aggregate-only-numbers
+    only-numbers-requires
+    enum-known-word
+    put-fault-requires
+    enum-told
+    array-read-new-with-2x-3x-init
+    array-read-new-with-2x-3x-init-2
+    array-read-new-with-2x-3x-init-3
+    new-with-2x-3x-init-requires
+    tell-ddr-requires
+    same-length
+    returns
+    same-length-2
+    returns-2)
