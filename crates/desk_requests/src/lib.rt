@@ -2,6 +2,8 @@
 mod help;
 
 use desk_answers::put_fault;
+use desk_clocks::answer_clocks;
+use desk_clocks::answer_gem;
 use desk_divisors::answer_i2c;
 use desk_divisors::answer_i2c_speed;
 use desk_divisors::answer_ttc;
@@ -31,7 +33,7 @@ pub fn answer_request(line: &[u8], out: &mut [u8], at: usize) -> usize
     match read_name(
         line,
         0,
-        b"two-stage i2c i2c-speed ttc pll-target pll-mul uart uart-list pll-seq cpu-init ddr-init help",
+        b"two-stage i2c i2c-speed ttc pll-target pll-mul uart uart-list pll-seq cpu-init ddr-init clocks gem help",
     ) {
         Named::Bad(fault) => put_fault(1, fault, out, at),
         Named::Name(i, next) => answer_named(i, line, next, out, at),
@@ -56,6 +58,8 @@ fn answer_named(i: usize, line: &[u8], from: usize, out: &mut [u8], at: usize) -
         8 => answer_pll_seq(line, from, out, at),
         9 => answer_cpu_init(line, from, out, at),
         10 => answer_ddr_init(line, from, out, at),
+        11 => answer_clocks(line, from, out, at),
+        12 => answer_gem(line, from, out, at),
         _ => answer_help(line, from, out, at),
     }
 }

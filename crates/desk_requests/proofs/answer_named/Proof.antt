@@ -41,6 +41,12 @@ answer-cpu-init-requires c κs = search needs
 answer-ddr-init-requires : tie.Need-answer-ddr-init-requires
 answer-ddr-init-requires c κs = search needs
 
+answer-clocks-requires : tie.Need-answer-clocks-requires
+answer-clocks-requires c κs = search needs
+
+answer-gem-requires : tie.Need-answer-gem-requires
+answer-gem-requires c κs = search needs
+
 answer-help-requires : tie.Need-answer-help-requires
 answer-help-requires c κs = search needs
 
@@ -113,25 +119,39 @@ returns-11 c = answers 10 (λ t e r. Answer.ddr-init _ e r) (c .before .before .
 same-length-12 : tie.Need-same-length-12
 same-length-12 c = search needs
 
+returns-12 : tie.Need-returns-12
+returns-12 c = answers 11 (λ t e r. Answer.clocks _ e r) (c .before .before .before .before .before .before .before .pre .1) (c .before .before .before .before .match .keys12) (c .before .before .answer-clocks .ensures)
+
+same-length-13 : tie.Need-same-length-13
+same-length-13 c = search needs
+
+returns-13 : tie.Need-returns-13
+returns-13 c = answers 12 (λ t e r. Answer.gem _ e r) (c .before .before .before .before .before .before .before .pre .1) (c .before .before .before .before .match .keys13) (c .before .before .answer-gem .ensures)
+
+same-length-14 : tie.Need-same-length-14
+same-length-14 c = search needs
+
 -- no other name is left
-the-last : (c : tie.After-slice-known13) → c .before .before .before .before .before .before .before .args .i ≡ 11
+the-last : (c : tie.After-slice-known15) → c .before .before .before .before .before .before .before .args .i ≡ 13
 the-last c =
     let r = c .before .before .before .before .match .rest in
-    let h1 = above 0 zero-le (r .0 .0 .0 .0 .0 .0 .0 .0 .0 .0 .1) in
-    let h2 = above 1 h1 (r .0 .0 .0 .0 .0 .0 .0 .0 .0 .1) in
-    let h3 = above 2 h2 (r .0 .0 .0 .0 .0 .0 .0 .0 .1) in
-    let h4 = above 3 h3 (r .0 .0 .0 .0 .0 .0 .0 .1) in
-    let h5 = above 4 h4 (r .0 .0 .0 .0 .0 .0 .1) in
-    let h6 = above 5 h5 (r .0 .0 .0 .0 .0 .1) in
-    let h7 = above 6 h6 (r .0 .0 .0 .0 .1) in
-    let h8 = above 7 h7 (r .0 .0 .0 .1) in
-    let h9 = above 8 h8 (r .0 .0 .1) in
-    let h10 = above 9 h9 (r .0 .1) in
-    let h11 = above 10 h10 (r .1) in
+    let h1 = above 0 zero-le (r .0 .0 .0 .0 .0 .0 .0 .0 .0 .0 .0 .0 .1) in
+    let h2 = above 1 h1 (r .0 .0 .0 .0 .0 .0 .0 .0 .0 .0 .0 .1) in
+    let h3 = above 2 h2 (r .0 .0 .0 .0 .0 .0 .0 .0 .0 .0 .1) in
+    let h4 = above 3 h3 (r .0 .0 .0 .0 .0 .0 .0 .0 .0 .1) in
+    let h5 = above 4 h4 (r .0 .0 .0 .0 .0 .0 .0 .0 .1) in
+    let h6 = above 5 h5 (r .0 .0 .0 .0 .0 .0 .0 .1) in
+    let h7 = above 6 h6 (r .0 .0 .0 .0 .0 .0 .1) in
+    let h8 = above 7 h7 (r .0 .0 .0 .0 .0 .1) in
+    let h9 = above 8 h8 (r .0 .0 .0 .0 .1) in
+    let h10 = above 9 h9 (r .0 .0 .0 .1) in
+    let h11 = above 10 h10 (r .0 .0 .1) in
+    let h12 = above 11 h11 (r .0 .1) in
+    let h13 = above 12 h12 (r .1) in
     omega (arith, place-below (c .before .before .before .before .before .before .before .pre .1))
 
-returns-12 : tie.Need-returns-12
-returns-12 c = answers 11 (λ t e r. Answer.help _ e r) (c .before .before .before .before .before .before .before .pre .1) (the-last c) (c .before .before .answer-help .ensures)
+returns-14 : tie.Need-returns-14
+returns-14 c = answers 13 (λ t e r. Answer.help _ e r) (c .before .before .before .before .before .before .before .pre .1) (the-last c) (c .before .before .answer-help .ensures)
 
 pub answer-named-spec : {M : Type 1} → statement M
 answer-named-spec =
@@ -148,6 +168,8 @@ answer-named-spec =
     answer-pll-seq-requires
     answer-cpu-init-requires
     answer-ddr-init-requires
+    answer-clocks-requires
+    answer-gem-requires
     answer-help-requires
     same-length
     returns
@@ -172,4 +194,8 @@ answer-named-spec =
     same-length-11
     returns-11
     same-length-12
-    returns-12)
+    returns-12
+    same-length-13
+    returns-13
+    same-length-14
+    returns-14)

@@ -1,0 +1,73 @@
+-- `desk_clocks::clocks_request::answer_clocks` meets its contract.
+use borrow.Author.Needs.{needs}
+use mathlib.Core.Path.{sym}
+use lib.Dec.{lit≤}
+use lib.Seq.{length-take-le}
+use Rattle.desk_image.proofs.Replying.{counted, image-faulted, image-replied}
+use Rattle.desk_clocks.proofs.clocks_request.answer_clocks.Statement.{statement}
+use Rattle.desk_clocks.proofs.clocks_request.answer_clocks.Tie as tie
+
+slice-aggregate-read-image : tie.Need-slice-aggregate-read-image
+slice-aggregate-read-image c = search needs
+
+slice-aggregate-read-image-2 : tie.Need-slice-aggregate-read-image-2
+slice-aggregate-read-image-2 c = search needs
+
+read-image-requires : tie.Need-read-image-requires
+read-image-requires c κs = search needs
+
+enum-known-word : tie.Need-enum-known-word
+enum-known-word c = search needs
+
+put-fault-requires : tie.Need-put-fault-requires
+put-fault-requires c κs = search needs
+
+enum-known-count : tie.Need-enum-known-count
+enum-known-count c = search needs
+
+array-read-new-from-regs : tie.Need-array-read-new-from-regs
+array-read-new-from-regs c = search needs
+
+array-share-prefix-image : tie.Need-array-share-prefix-image
+array-share-prefix-image c = counted _ (c .before .before .before .before .before .read-image .result) (c .before .before .before .before .before .read-image .ensures .0) (c .before .count .given .1)
+
+slice-aggregate-new-from-regs : tie.Need-slice-aggregate-new-from-regs
+slice-aggregate-new-from-regs c = sym (length-take-le _ _ (counted _ (c .before .before .before .before .before .before .read-image .result) (c .before .before .before .before .before .before .read-image .ensures .0) (c .before .before .count .given .1)))
+
+new-from-regs-requires : tie.Need-new-from-regs-requires
+new-from-regs-requires c κs = search needs
+
+tell-clocks-requires : tie.Need-tell-clocks-requires
+tell-clocks-requires c κs = search needs
+
+same-length : tie.Need-same-length
+same-length c = search needs
+
+returns : tie.Need-returns
+returns c = image-faulted _ _ _ (c .before .before .before .before .before .before .before .before .before .read-image .ensures .1) (c .before .before .before .before .before .word .given .1) (c .before .before .put-fault .ensures)
+
+same-length-2 : tie.Need-same-length-2
+same-length-2 c = search needs
+
+returns-2 : tie.Need-returns-2
+returns-2 c = image-replied _ _ _ (c .before .before .before .before .before .before .before .before .before .before .before .read-image .ensures .1) 400 _ (lit≤ tt) (c .before .before .before .before .before .before .before .count .given .1) (c .before .before .before .before .new-from-regs .ensures) (c .before .before .tell-clocks .ensures)
+
+pub answer-clocks-spec : {M : Type 1} → statement M
+answer-clocks-spec =
+    tie.close
+    (tie.spec
+    slice-aggregate-read-image
+    slice-aggregate-read-image-2
+    read-image-requires
+    enum-known-word
+    put-fault-requires
+    enum-known-count
+    array-read-new-from-regs
+    array-share-prefix-image
+    slice-aggregate-new-from-regs
+    new-from-regs-requires
+    tell-clocks-requires
+    same-length
+    returns
+    same-length-2
+    returns-2)

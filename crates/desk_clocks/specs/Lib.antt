@@ -1,0 +1,2 @@
+pub mod Gem
+pub mod Requests

@@ -1,0 +1,54 @@
+-- `desk_image::read_image` meets its contract.
+use borrow.Author.Needs.{needs}
+use Rattle.desk_image.proofs.Reading.{bad-number, then-registers}
+use Rattle.desk_image.proofs.read_image.Statement.{statement}
+use Rattle.desk_image.proofs.read_image.Tie as tie
+
+read-numbers-requires : tie.Need-read-numbers-requires
+read-numbers-requires c κs = search needs
+
+enum-known-word : tie.Need-enum-known-word
+enum-known-word c = search needs
+
+enum-known-next : tie.Need-enum-known-next
+enum-known-next c = search needs
+
+cast-read-registers : tie.Need-cast-read-registers
+cast-read-registers c = search needs
+
+add-read-registers : tie.Need-add-read-registers
+add-read-registers c = search needs
+
+read-registers-requires : tie.Need-read-registers-requires
+read-registers-requires c κs = search needs
+
+same-length : tie.Need-same-length
+same-length c = search needs
+
+returns : tie.Need-returns
+returns c = bad-number _ _ _ (c .before .before .before .before .before .read-numbers .ensures) (c .before .word .given .1)
+
+same-length-2 : tie.Need-same-length-2
+same-length-2 c = search needs
+
+same-length-3 : tie.Need-same-length-3
+same-length-3 c = search needs
+
+returns-2 : tie.Need-returns-2
+returns-2 c = then-registers _ _ _ (c .before .before .before .before .before .before .before .before .before .read-numbers .ensures) _ _ (c .before .before .read-registers .result) (c .before .before .before .before .before .next .given .1) (c .before .before .before .before .before .before .before .before .before .read-numbers .kept .1 .1 .1 .0) (c .before .before .read-registers .ensures)
+
+pub read-image-spec : {M : Type 1} → statement M
+read-image-spec =
+    tie.close
+    (tie.spec
+    read-numbers-requires
+    enum-known-word
+    enum-known-next
+    cast-read-registers
+    add-read-registers
+    read-registers-requires
+    same-length
+    returns
+    same-length-2
+    same-length-3
+    returns-2)
