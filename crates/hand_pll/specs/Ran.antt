@@ -7,7 +7,6 @@ use Rattle.refusals.specs.Told.{answered, refused}
 use Rattle.refusals.specs.Number.{NO-ROOM, LOCK-TIMEOUT, BAD-LIMIT, BAD-FIELD}
 use Rattle.handing.specs.Handed.{code}
 use Rattle.registers.specs.declared.PllType.{PllType}
-use Rattle.registers.specs.declared.PllType.the-variants.{Arm, Ddr, Io}
 use Rattle.pll_settings.specs.declared.PllConfig.{PllConfig}
 use Rattle.pll_rows.specs.declared.PllPlan.{PllPlan}
 use Rattle.pll_rows.specs.Sequence.{accesses-of}
@@ -16,17 +15,7 @@ use Rattle.pll_run.specs.declared.End.{End}
 use Rattle.pll_run.specs.declared.End.the-variants.{Locked, LockTimeout, Starved, NoRoom}
 use Rattle.pll_run.specs.declared.Ran.{Ran}
 use Rattle.pll_run.specs.Record.{Rows, Recorded, told}
-use Rattle.hand_pll.specs.declared.PllNumber.{PllNumber}
-use Rattle.hand_pll.specs.declared.PllNumber.the-variants.{Of, NoSuch}
-
-abbrev pub pllNumber : PllType → ℕ
-pllNumber Arm = 0
-pllNumber Ddr = 1
-pllNumber Io = 2
-
-abbrev pub IsPll : ℕ → PllNumber → Type 0
-IsPll n (Of pll) = n ≡ pllNumber pll
-IsPll n NoSuch = 2 < n
+use Rattle.pll_words.specs.Row.{pllNumber}
 
 -- the words ran out: no refusal of document 01
 abbrev pub STARVED : ℕ

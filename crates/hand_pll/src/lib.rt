@@ -7,28 +7,12 @@ use pll_run::run;
 use pll_settings::PllConfig;
 use pll_start::Start;
 use pll_start::configure_pll_unchecked;
-use registers::PllType;
+use pll_words::numbers::PllNumber;
+use pll_words::numbers::pll_of;
 ghost use mathlib.Core.Path.{_≡_};
 ghost use Prim.Native.Nat.{_<_, _^_};
 ghost use Rattle.pll_run.specs.Record.{rows};
-ghost use Rattle.hand_pll.specs.Ran.{ranCode, PlanRan, PllRan, IsPll};
-
-// 0 ARM, 1 DDR, 2 IO.
-pub enum PllNumber {
-    Of(PllType),
-    NoSuch,
-}
-
-fn pll_of(number: u8) -> PllNumber
-    ensures { λ r. ⌜ IsPll number r ⌝ }
-{
-    match number {
-        0 => PllNumber::Of(PllType::Arm),
-        1 => PllNumber::Of(PllType::Ddr),
-        2 => PllNumber::Of(PllType::Io),
-        _ => PllNumber::NoSuch,
-    }
-}
+ghost use Rattle.hand_pll.specs.Ran.{ranCode, PlanRan, PllRan};
 
 // How many accesses there are stands above, whatever the end is.
 fn ran_code(ran: Ran) -> u64
@@ -79,7 +63,7 @@ pub fn hand_pll_run(
     if limit == 0 {
         return 12;
     }
-    match pll_of(pll) {
+    match pll_of(pll as u32) {
         PllNumber::Of(pll) => run_plan(
             PllPlan {
                 pll,

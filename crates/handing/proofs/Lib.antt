@@ -1,2 +1,3 @@
 pub mod Handing
 mod Over
+pub mod Unique

@@ -1,7 +1,7 @@
 -- `hand_pll::hand_pll_run` refuses what names no run, and hands the rest on. Assumes nothing.
 use native.Mathlib.Omega.{arith}
 use mathlib.Core.Path.{ap}
-use Rattle.hand_pll.specs.Ran.{IsPll, no-limit, no-such-pll, of-plan}
+use Rattle.hand_pll.specs.Ran.{no-limit, no-such-pll, of-plan}
 use borrow.Author.Needs.{needs}
 use Rattle.hand_pll.proofs.hand_pll_run.Statement.{statement}
 use Rattle.hand_pll.proofs.hand_pll_run.Tie as tie

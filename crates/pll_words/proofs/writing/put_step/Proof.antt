@@ -1,0 +1,72 @@
+-- `pll_words::writing::put_step` meets its contract. Assumes nothing.
+use denote.Ref.{now}
+use lib.ListN.{drop}
+use Rattle.pll_words.proofs.Rows.{stepped}
+use borrow.Author.Needs.{needs}
+use Rattle.pll_words.proofs.writing.put_step.Statement.{statement}
+use Rattle.pll_words.proofs.writing.put_step.Tie as tie
+
+asking-requires : tie.Need-asking-requires
+asking-requires c κs = search needs
+
+pll-number-requires : tie.Need-pll-number-requires
+pll-number-requires c κs = search needs
+
+flag-requires : tie.Need-flag-requires
+flag-requires c κs = search needs
+
+cast-t12 : tie.Need-cast-t12
+cast-t12 c = search needs
+
+cast-t13 : tie.Need-cast-t13
+cast-t13 c = search needs
+
+cast-t14 : tie.Need-cast-t14
+cast-t14 c = search needs
+
+cast-t15 : tie.Need-cast-t15
+cast-t15 c = search needs
+
+cast-t16 : tie.Need-cast-t16
+cast-t16 c = search needs
+
+cast-t17 : tie.Need-cast-t17
+cast-t17 c = search needs
+
+slice-aggregate-put : tie.Need-slice-aggregate-put
+slice-aggregate-put c = search needs
+
+put-requires : tie.Need-put-requires
+put-requires c κs = search needs
+
+number-of-requires : tie.Need-number-of-requires
+number-of-requires c κs = search needs
+
+same-length : tie.Need-same-length
+same-length c = search needs
+
+returns : tie.Need-returns
+returns c =
+    let s = c .before .before .before .before .before .before .before .before .before .before .before .before .before .before .before .before .before .before .before in (
+      c .number-of .ensures,
+      stepped (s .args .step) _ _ (c .before .before .before .before .before .before .before .before .before .before .before .before .before .before .before .before .before .asking .result) (drop 12 (now (s .args .row))) (c .before .before .before .put .ensures) (c .before .before .before .before .before .before .before .before .before .before .before .before .before .pll-number .ensures) (c .before .before .before .before .before .before .before .before .before .before .before .before .flag .ensures) (c .before .before .before .before .before .before .before .before .before .before .before .before .before .before .before .before .before .asking .ensures),
+    )
+
+pub put-step-spec : {M : Type 1} → statement M
+put-step-spec =
+    tie.close
+    (tie.spec
+    asking-requires
+    pll-number-requires
+    flag-requires
+    cast-t12
+    cast-t13
+    cast-t14
+    cast-t15
+    cast-t16
+    cast-t17
+    slice-aggregate-put
+    put-requires
+    number-of-requires
+    same-length
+    returns)
