@@ -1,1 +1,2 @@
 mod Errors
+pub mod Unique

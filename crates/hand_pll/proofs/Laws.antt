@@ -16,7 +16,7 @@ use Rattle.pll_run.specs.declared.Ran.{Ran}
 use Rattle.pll_run.specs.Record.{Rows, Recorded, no-room, recorded, told}
 use Rattle.hand_pll.specs.Ran.{ranCode, PlanRan, not-started, ran}
 
-refusal-is-none : {A : Type 0} {n : ℕ} {s : PllSequence} → _≡_ {A = Told PllSequence} (refused n []) (answered s) → A
+pub refusal-is-none : {A : Type 0} {n : ℕ} {s : PllSequence} → _≡_ {A = Told PllSequence} (refused n []) (answered s) → A
 refusal-is-none e = absurd (let z : _≡_ {A = ℕ} 0 1 = cc in omega arith)
 
 counted : {log : Log} {before after : Rows} {n : ℕ} {t : Told Ending} → Recorded log before after n t → n ≡ length (log .accesses)

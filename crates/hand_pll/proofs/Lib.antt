@@ -1,1 +1,2 @@
 mod Laws
+pub mod Unique

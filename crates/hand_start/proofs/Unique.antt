@@ -1,5 +1,5 @@
 -- One number and one row can be handed back by a start, and by a step. Assumes nothing.
-use Prim.Native.Nat.{ℕ, _<_}
+use Prim.Native.Nat.{ℕ}
 use mathlib.Core.Path.{_≡_, refl, sym, ap, subst, _∙_}
 use mathlib.Core.Bool.{Bool}
 use mathlib.Core.List.{List, [], _∷_, _++_}
@@ -9,7 +9,6 @@ use Rattle.refusals.specs.Told.{Told, answered, refused}
 use Rattle.handing.specs.Handed.{Handed, code}
 use Rattle.handing.proofs.Unique as handing
 use Rattle.registers.specs.declared.PllType.{PllType}
-use Rattle.registers.specs.declared.PllType.the-variants.{Arm, Ddr, Io}
 use Rattle.pll_settings.specs.declared.PllConfig.{PllConfig}
 use Rattle.pll_rows.specs.declared.PllPlan.{PllPlan}
 use Rattle.pll_sequence.specs.declared.PllSequence.{PllSequence}
@@ -19,7 +18,7 @@ use Rattle.pll_sequence.proofs.Unique as step
 use Rattle.pll_start.specs.declared.PllMarks.{PllMarks}
 use Rattle.pll_start.specs.Start.{Starts, StartsOnce}
 use Rattle.pll_start.proofs.Unique as start
-use Rattle.pll_words.specs.Row.{pllNumber, ROOM, askedNumber, stepWords}
+use Rattle.pll_words.specs.Row.{ROOM, askedNumber, stepWords}
 use Rattle.pll_words.specs.Kept.{Keeps}
 use Rattle.pll_words.proofs.Unique as words
 use Rattle.hand_start.specs.Started.{ByNumber, no-limit, no-such-pll, of-plan, First, FirstOnce, OnceHanded, Begun, marksOf, marksNumber}
@@ -30,11 +29,6 @@ apart e = absurd (let z : _≡_ {A = ℕ} 0 1 = cc in omega arith)
 
 -- ---- a rule by number, where the rule of every plan that has a limit is settled
 
-small : (p : PllType) → pllNumber p < 3
-small Arm = omega arith
-small Ddr = omega arith
-small Io = omega arith
-
 module _ {A : Type 0} {Right : PllPlan → Told A → Type 0} (one : (plan : PllPlan) (t u : Told A) → Right plan t → Right plan u → t ≡ u) where
   pub by-number : {pll limit : ℕ} {bypassed : Bool} {config : PllConfig} (t u : Told A) → ByNumber pll bypassed config limit Right t →
       ByNumber pll bypassed config limit Right u → t ≡ u
@@ -43,9 +37,9 @@ module _ {A : Type 0} {Right : PllPlan → Told A → Type 0} (one : (plan : Pll
   by-number t u (no-limit h) (of-plan p g e y) = absurd (omega arith)
   by-number t u (no-such-pll h k) (no-limit g) = absurd (omega arith)
   by-number t u (no-such-pll h k) (no-such-pll g l) = refl
-  by-number t u (no-such-pll h k) (of-plan p g e y) = absurd (let z = small p in omega arith)
+  by-number t u (no-such-pll h k) (of-plan p g e y) = absurd (let z = words.small p in omega arith)
   by-number t u (of-plan p h d x) (no-limit g) = absurd (omega arith)
-  by-number t u (of-plan p h d x) (no-such-pll g k) = absurd (let z = small p in omega arith)
+  by-number t u (of-plan p h d x) (no-such-pll g k) = absurd (let z = words.small p in omega arith)
   by-number {bypassed = bypassed} {config} t u (of-plan p h d x) (of-plan q g e y) =
       one _ t u (subst (λ (k : PllType). Right (record { pll = k; config = config; bypassed = bypassed }) t) (words.one-pll p q (sym d ∙ e)) x) y
 

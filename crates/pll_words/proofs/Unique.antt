@@ -1,5 +1,5 @@
 -- A row keeps one run at most. Assumes nothing.
-use Prim.Native.Nat.{ℕ}
+use Prim.Native.Nat.{ℕ, _<_}
 use mathlib.Core.Path.{_≡_, refl, sym, ap, _∙_}
 use mathlib.Core.Bool.{Bool, true, false}
 use mathlib.Core.List.{List}
@@ -22,6 +22,11 @@ one-pll Ddr Io e = absurd (omega arith)
 one-pll Io Arm e = absurd (omega arith)
 one-pll Io Ddr e = absurd (omega arith)
 one-pll Io Io e = refl
+
+pub small : (p : PllType) → pllNumber p < 3
+small Arm = omega arith
+small Ddr = omega arith
+small Io = omega arith
 
 one-flag : (a b : Bool) → flag a ≡ flag b → a ≡ b
 one-flag false false e = refl
