@@ -17,7 +17,7 @@ use Rattle.gem.specs.declared.GemRead.{GemRead}
 use Rattle.gem.specs.declared.GemRead.the-variants.{Hertz, DivisorZero}
 use Rattle.gem.specs.Gem.{Right, divisor-0, divisor-1, clock, told}
 
-same : {out : PllOutputs} {word : ℕ} {id : ClockModuleId} {a b : Told ℕ} → Right out word id a → Right out word id b → a ≡ b
+pub same : {out : PllOutputs} {word : ℕ} {id : ClockModuleId} {a b : Told ℕ} → Right out word id a → Right out word id b → a ≡ b
 same (divisor-0 z) (divisor-0 y) = refl
 same (divisor-0 z) (divisor-1 p y) = refl
 same (divisor-0 z) (clock p q) = absurd (omega arith)
