@@ -39,9 +39,14 @@ pub extern "C" fn ogr_pll_mul(multiplier: u32, out: &mut [u32]) -> u64
     hand_setting(PllConfig::new(multiplier), out)
 }
 
+// As `PllConfig::new_from_target_clock`, which would have the compiler keep `PllConfig::new` apart for two callers, its answer passed
+// through memory.
 #[no_mangle]
 pub extern "C" fn ogr_pll_target(crystal: u32, target: u32, out: &mut [u32]) -> u64
     ensures { λ r. ⌜ Handed settingWords 4 (RightTarget crystal target) (now (out .entry)) r (now (out .exit)) ⌝ }
 {
-    hand_setting(PllConfig::new_from_target_clock(crystal, target), out)
+    if crystal == 0 {
+        return hand_setting(PllSetting::ZeroInput, out);
+    }
+    ogr_pll_mul(target / crystal, out)
 }

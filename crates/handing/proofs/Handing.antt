@@ -25,3 +25,10 @@ pub of-answer : {A : Type 0} {words : A → List ℕ} {room : ℕ} {Right : Told
 of-answer t right (Handed.short h) = Handed.short h
 of-answer {Right = Right} t right (Handed.refusal h e) = Handed.refusal h (subst Right (sym e) right)
 of-answer {Right = Right} t right (Handed.answer h e) = Handed.answer h (subst Right (sym e) right)
+
+-- what is handed back by one rule is handed back by any rule that follows from it
+pub of-rule : {A : Type 0} {words : A → List ℕ} {room : ℕ} {Right Wider : Told A → Type 0} {before after : List ℕ} {r : ℕ} →
+    ((t : Told A) → Right t → Wider t) → Handed words room Right before r after → Handed words room Wider before r after
+of-rule wider (Handed.short h) = Handed.short h
+of-rule wider (Handed.refusal h right) = Handed.refusal h (wider _ right)
+of-rule wider (Handed.answer h right) = Handed.answer h (wider _ right)

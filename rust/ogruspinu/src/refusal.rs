@@ -149,7 +149,23 @@ fn refused(number: u32, carried: u32) -> Refusal {
 pub(crate) fn words<const N: usize>(
     call: impl FnOnce(&mut [u32]) -> u64,
 ) -> Result<[u32; N], Refusal> {
+    words_or(refused, call)
+}
+
+/// The same where the call has but one or two refusals, which the caller names itself: that is quicker than to look
+/// the refusal up among all.
+#[inline]
+pub(crate) fn words_or<const N: usize>(
+    refused: impl FnOnce(u32, u32) -> Refusal,
+    call: impl FnOnce(&mut [u32]) -> u64,
+) -> Result<[u32; N], Refusal> {
     let mut words = [0; N];
-    told(call(&mut words))?;
-    Ok(words)
+    match raw::halves(call(&mut words)) {
+        (0, _) => Ok(words),
+        (number, carried) => {
+            let refusal = refused(number, carried);
+            debug_assert_eq!(Refusal::of(number, carried), Some(refusal));
+            Err(refusal)
+        }
+    }
 }

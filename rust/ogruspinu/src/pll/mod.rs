@@ -2,7 +2,7 @@
 mod sequence;
 
 use crate::raw;
-use crate::refusal::{Refusal, words};
+use crate::refusal::{Refusal, words_or};
 use crate::time::Hertz;
 pub use sequence::{Access, BootPllConfig, End, PllType, Run, configure_pll_unchecked};
 
@@ -32,7 +32,8 @@ impl PllConfig {
     /// ```
     #[inline]
     pub fn new(pll_mul: u32) -> Result<Self, Refusal> {
-        words(|out| raw::pll_mul(pll_mul, out)).map(Self::of)
+        let refused = |_, multiplier| Refusal::MulRange(multiplier);
+        words_or(refused, |out| raw::pll_mul(pll_mul, out)).map(Self::of)
     }
 
     /// The setting for the multiplier target/crystal, rounded down. Refusals: [`Refusal::ZeroInput`],
@@ -49,7 +50,12 @@ impl PllConfig {
     /// ```
     #[inline]
     pub fn new_from_target_clock(ps_clk: Hertz, target_clk: Hertz) -> Result<Self, Refusal> {
-        words(|out| raw::pll_target(ps_clk.to_raw(), target_clk.to_raw(), out)).map(Self::of)
+        let refused = |number, multiplier| match number {
+            4 => Refusal::ZeroInput,
+            _ => Refusal::MulRange(multiplier),
+        };
+        let (crystal, target) = (ps_clk.to_raw(), target_clk.to_raw());
+        words_or(refused, |out| raw::pll_target(crystal, target, out)).map(Self::of)
     }
 
     /// A setting as it is; what is too wide for its field is refused when a sequence starts.

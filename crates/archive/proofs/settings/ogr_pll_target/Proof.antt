@@ -1,11 +1,10 @@
--- `archive::settings::ogr_pll_target` hands back what the call tells. Assumes nothing.
-use Rattle.handing.proofs.Handing.{of-answer}
+-- `archive::settings::ogr_pll_target` hands back the setting of target over crystal. Assumes nothing.
+use native.Mathlib.Omega.{arith}
+use Rattle.handing.proofs.Handing.{of-answer, of-rule}
+use Rattle.pll_settings.specs.Settings.{no-crystal, by-multiplier}
 use borrow.Author.Needs.{needs}
 use Rattle.archive.proofs.settings.ogr_pll_target.Statement.{statement}
 use Rattle.archive.proofs.settings.ogr_pll_target.Tie as tie
-
-new-from-target-clock-requires : tie.Need-new-from-target-clock-requires
-new-from-target-clock-requires c κs = search needs
 
 hand-setting-requires : tie.Need-hand-setting-requires
 hand-setting-requires c κs = search needs
@@ -14,9 +13,28 @@ same-length : tie.Need-same-length
 same-length c = search needs
 
 returns : tie.Need-returns
-returns c =
-    of-answer _ (c .before .before .before .before .new-from-target-clock .ensures) (c .before .before .hand-setting .ensures)
+returns c = of-answer _ (no-crystal (omega arith)) (c .before .before .hand-setting .ensures)
+
+div-ogr-pll-mul : tie.Need-div-ogr-pll-mul
+div-ogr-pll-mul c = search needs
+
+ogr-pll-mul-requires : tie.Need-ogr-pll-mul-requires
+ogr-pll-mul-requires c κs = search needs
+
+same-length-2 : tie.Need-same-length-2
+same-length-2 c = search needs
+
+returns-2 : tie.Need-returns-2
+returns-2 c = of-rule (λ t right. by-multiplier (omega arith) right) (c .before .before .ogr-pll-mul .ensures)
 
 pub ogr-pll-target-spec : {M : Type 1} → statement M
 ogr-pll-target-spec =
-    tie.close (tie.spec new-from-target-clock-requires hand-setting-requires same-length returns)
+    tie.close
+    (tie.spec
+    hand-setting-requires
+    same-length
+    returns
+    div-ogr-pll-mul
+    ogr-pll-mul-requires
+    same-length-2
+    returns-2)
