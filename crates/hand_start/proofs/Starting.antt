@@ -17,18 +17,12 @@ use Rattle.pll_words.specs.Kept.{Keeps}
 use Rattle.hand_start.specs.Started.{First, FirstOnce, OnceHanded, Begun, marksOf, marksNumber}
 use Rattle.hand_start.specs.Stepped.{StepHanded}
 
--- what is handed back of a rule is handed back of one that allows more
-pub wider : {A : Type 0} {words : A → List ℕ} {room : ℕ} {R S : Told A → Type 0} {before after : List ℕ} {r : ℕ} → ((t : Told A) → R t → S t) →
-    Handed words room R before r after → Handed words room S before r after
-wider f (Handed.short h) = Handed.short h
-wider f (Handed.refusal h x) = Handed.refusal h (f _ x)
-wider f (Handed.answer h x) = Handed.answer h (f _ x)
-
-pub wider-once : {R S : Told Begun → Type 0} {before after : List ℕ} {r : ℕ} → ((t : Told Begun) → R t → S t) →
+-- what is handed back by one rule is handed back by any rule that follows from it
+pub of-rule-once : {R S : Told Begun → Type 0} {before after : List ℕ} {r : ℕ} → ((t : Told Begun) → R t → S t) →
     OnceHanded R before r after → OnceHanded S before r after
-wider-once f (OnceHanded.short h) = OnceHanded.short h
-wider-once f (OnceHanded.refusal h x) = OnceHanded.refusal h (f _ x)
-wider-once f (OnceHanded.answer h x) = OnceHanded.answer h (f _ x)
+of-rule-once f (OnceHanded.short h) = OnceHanded.short h
+of-rule-once f (OnceHanded.refusal h x) = OnceHanded.refusal h (f _ x)
+of-rule-once f (OnceHanded.answer h x) = OnceHanded.answer h (f _ x)
 
 -- ---- a start
 

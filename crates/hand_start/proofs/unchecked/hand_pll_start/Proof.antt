@@ -2,7 +2,7 @@
 use native.Mathlib.Omega.{arith}
 use Rattle.hand_start.specs.Started.{no-limit, no-such-pll, of-plan, OnceHanded}
 use Rattle.handing.specs.Handed.{Handed}
-use Rattle.hand_start.proofs.Starting.{wider}
+use Rattle.handing.proofs.Handing.{of-rule}
 use borrow.Author.Needs.{needs}
 use Rattle.hand_start.proofs.unchecked.hand_pll_start.Statement.{statement}
 use Rattle.hand_start.proofs.unchecked.hand_pll_start.Tie as tie
@@ -32,7 +32,7 @@ same-length : tie.Need-same-length
 same-length c = search needs
 
 returns-3 : tie.Need-returns-3
-returns-3 c = let h = c .before .before .before .before .before .before .before .before .if2 .left in wider (λ t right. of-plan _ (omega arith) (rw (c .before .before .before .before .before .pll .given .1) at (c .before .before .before .before .before .before .before .pll-of .ensures)) right) (c .before .before .start-plan .ensures)
+returns-3 c = let h = c .before .before .before .before .before .before .before .before .if2 .left in of-rule (λ t right. of-plan _ (omega arith) (rw (c .before .before .before .before .before .pll .given .1) at (c .before .before .before .before .before .before .before .pll-of .ensures)) right) (c .before .before .start-plan .ensures)
 
 returns-4 : tie.Need-returns-4
 returns-4 c = let h = c .before .before .before .if2 .left in Handed.refusal (omega arith) (no-such-pll (omega arith) (rw (c .enum-told .given .1) at (c .before .before .pll-of .ensures)))
