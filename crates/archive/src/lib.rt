@@ -3,9 +3,6 @@
 // in the upper, and the row as it was. include/ogruspinu.h says it call by call.
 mod clock_image;
 mod divisors;
-mod i2c_bus;
 mod sequence;
 mod settings;
-mod timer;
-mod uart_pairs;
 mod uart_records;

@@ -7,7 +7,7 @@ use ttc::calc_prescaler_reg_and_interval_ticks;
 ghost use mathlib.Core.Path.{_≡_};
 ghost use Rattle.ttc.specs.Interval.{Right};
 ghost use Rattle.handing.specs.Handed.{Handed};
-ghost use Rattle.archive.specs.Words.{intervalWords, prescalerWord};
+ghost use Rattle.hand_divisors.specs.Words.{intervalWords, prescalerWord};
 
 fn prescaler_word(p: PrescalerReg) -> u32
     ensures { λ r. ⌜ r ≡ prescalerWord p ⌝ }
@@ -19,8 +19,7 @@ fn prescaler_word(p: PrescalerReg) -> u32
 }
 
 // Two words: 0 for no prescaler or the prescaler's value and 1, and the ticks.
-#[no_mangle]
-pub extern "C" fn ogr_ttc(reference: u32, frequency: u32, out: &mut [u32]) -> u64
+pub fn hand_ttc(reference: u32, frequency: u32, out: &mut [u32]) -> u64
     ensures { λ r. ⌜ Handed intervalWords 2 (Right reference frequency) (now (out .entry)) r (now (out .exit)) ⌝ }
 {
     if out.len() < 2 {

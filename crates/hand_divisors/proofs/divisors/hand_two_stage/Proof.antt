@@ -1,11 +1,11 @@
--- `archive::divisors::ogr_two_stage` hands back what the search tells. Assumes nothing.
+-- `hand_divisors::divisors::hand_two_stage` hands back what the search tells. Assumes nothing.
 use native.Mathlib.Omega.{arith}
 use mathlib.Core.Path.{ap}
 use Rattle.handing.proofs.Handing.{no-row, refuses, answers}
 use Rattle.two_stage.specs.Answer.{told}
 use borrow.Author.Needs.{needs}
-use Rattle.archive.proofs.divisors.ogr_two_stage.Statement.{statement}
-use Rattle.archive.proofs.divisors.ogr_two_stage.Tie as tie
+use Rattle.hand_divisors.proofs.divisors.hand_two_stage.Statement.{statement}
+use Rattle.hand_divisors.proofs.divisors.hand_two_stage.Tie as tie
 
 no-room-requires : tie.Need-no-room-requires
 no-room-requires c κs = search needs
@@ -47,8 +47,8 @@ returns-4 : tie.Need-returns-4
 returns-4 c =
     refuses (omega arith) (c .before .before .find-two-stage-divisors .ensures) (ap told (c .enum-told2 .given .1))
 
-pub ogr-two-stage-spec : {M : Type 1} → statement M
-ogr-two-stage-spec =
+pub hand-two-stage-spec : {M : Type 1} → statement M
+hand-two-stage-spec =
     tie.close
     (tie.spec
     no-room-requires

@@ -1,6 +1,6 @@
 use borrow.Author.Needs.{needs}
-use Rattle.archive.proofs.timer.prescaler_word.Statement.{statement}
-use Rattle.archive.proofs.timer.prescaler_word.Tie as tie
+use Rattle.hand_divisors.proofs.timer.prescaler_word.Statement.{statement}
+use Rattle.hand_divisors.proofs.timer.prescaler_word.Tie as tie
 
 enum-told : tie.Need-enum-told
 enum-told c = search needs

@@ -1,11 +1,11 @@
--- `archive::uart_pairs::ogr_uart_best` hands back what the search tells. Assumes nothing.
+-- `hand_divisors::uart_pairs::hand_uart_best` hands back what the search tells. Assumes nothing.
 use native.Mathlib.Omega.{arith}
 use mathlib.Core.Path.{ap}
 use Rattle.handing.proofs.Handing.{no-row, refuses, answers}
 use Rattle.uart_best.specs.Best.{told}
 use borrow.Author.Needs.{needs}
-use Rattle.archive.proofs.uart_pairs.ogr_uart_best.Statement.{statement}
-use Rattle.archive.proofs.uart_pairs.ogr_uart_best.Tie as tie
+use Rattle.hand_divisors.proofs.uart_pairs.hand_uart_best.Statement.{statement}
+use Rattle.hand_divisors.proofs.uart_pairs.hand_uart_best.Tie as tie
 
 no-room-requires : tie.Need-no-room-requires
 no-room-requires c κs = search needs
@@ -49,8 +49,8 @@ returns-3 : tie.Need-returns-3
 returns-3 c =
     refuses (omega arith) (c .before .before .best-baud-divisors .ensures) (ap told (c .enum-told .given .1))
 
-pub ogr-uart-best-spec : {M : Type 1} → statement M
-ogr-uart-best-spec =
+pub hand-uart-best-spec : {M : Type 1} → statement M
+hand-uart-best-spec =
     tie.close
     (tie.spec
     no-room-requires

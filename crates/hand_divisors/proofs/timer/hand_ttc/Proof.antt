@@ -3,8 +3,8 @@ use mathlib.Core.Path.{ap}
 use Rattle.ttc.specs.Interval.{told}
 use Rattle.handing.proofs.Handing.{no-row, refuses, answers}
 use borrow.Author.Needs.{needs}
-use Rattle.archive.proofs.timer.ogr_ttc.Statement.{statement}
-use Rattle.archive.proofs.timer.ogr_ttc.Tie as tie
+use Rattle.hand_divisors.proofs.timer.hand_ttc.Statement.{statement}
+use Rattle.hand_divisors.proofs.timer.hand_ttc.Tie as tie
 
 no-room-requires : tie.Need-no-room-requires
 no-room-requires c κs = search needs
@@ -43,8 +43,8 @@ returns-2 c = answers (omega arith) (c .before .before .before .before .before .
 returns-3 : tie.Need-returns-3
 returns-3 c = refuses (omega arith) (c .before .before .calc-prescaler-reg-and-interval-ticks .ensures) (ap told (c .enum-told .given .1))
 
-pub ogr-ttc-spec : {M : Type 1} → statement M
-ogr-ttc-spec =
+pub hand-ttc-spec : {M : Type 1} → statement M
+hand-ttc-spec =
     tie.close
     (tie.spec
     no-room-requires

@@ -1,11 +1,11 @@
--- `archive::i2c_bus::ogr_i2c_divisors` hands back what the search tells. Assumes nothing.
+-- `hand_divisors::i2c_bus::hand_i2c_divisors` hands back what the search tells. Assumes nothing.
 use native.Mathlib.Omega.{arith}
 use mathlib.Core.Path.{ap}
 use Rattle.handing.proofs.Handing.{no-row, refuses, answers}
 use Rattle.i2c.specs.Divisors.{told}
 use borrow.Author.Needs.{needs}
-use Rattle.archive.proofs.i2c_bus.ogr_i2c_divisors.Statement.{statement}
-use Rattle.archive.proofs.i2c_bus.ogr_i2c_divisors.Tie as tie
+use Rattle.hand_divisors.proofs.i2c_bus.hand_i2c_divisors.Statement.{statement}
+use Rattle.hand_divisors.proofs.i2c_bus.hand_i2c_divisors.Tie as tie
 
 no-room-requires : tie.Need-no-room-requires
 no-room-requires c κs = search needs
@@ -49,8 +49,8 @@ returns-3 : tie.Need-returns-3
 returns-3 c =
     refuses (omega arith) (rw (c .before .before .before .speed-of .ensures) at (c .before .before .calculate-divisors .ensures)) (ap told (c .enum-told .given .1))
 
-pub ogr-i2c-divisors-spec : {M : Type 1} → statement M
-ogr-i2c-divisors-spec =
+pub hand-i2c-divisors-spec : {M : Type 1} → statement M
+hand-i2c-divisors-spec =
     tie.close
     (tie.spec
     no-room-requires

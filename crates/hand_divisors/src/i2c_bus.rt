@@ -10,11 +10,10 @@ ghost use mathlib.Core.Path.{_≡_};
 ghost use Prim.Native.Nat.{_+_};
 ghost use Rattle.i2c.specs.Divisors.{Right, clock};
 ghost use Rattle.handing.specs.Handed.{Handed};
-ghost use Rattle.archive.specs.Words.{configWords, speedOf};
+ghost use Rattle.hand_divisors.specs.Words.{configWords, speedOf};
 
 // Two words: the register values a - 1 and b - 1. Speed 0 is normal, any other number fast.
-#[no_mangle]
-pub extern "C" fn ogr_i2c_divisors(input: u32, fast: bool, out: &mut [u32]) -> u64
+pub fn hand_i2c_divisors(input: u32, fast: bool, out: &mut [u32]) -> u64
     ensures { λ r. ⌜ Handed configWords 2 (Right input (speedOf fast)) (now (out .entry)) r (now (out .exit)) ⌝ }
 {
     if out.len() < 2 {
@@ -41,8 +40,7 @@ fn speed_of(fast: bool) -> Speed
 }
 
 // The speed of two raw register values.
-#[no_mangle]
-pub extern "C" fn ogr_i2c_speed(input: u32, div_a: u8, div_b: u8) -> u32
+pub fn hand_i2c_speed(input: u32, div_a: u8, div_b: u8) -> u32
     ensures { λ r. ⌜ r ≡ clock input («div_a» + 1) («div_b» + 1) ⌝ }
 {
     calculate_i2c_speed(input, ClockConfig { div_a, div_b })

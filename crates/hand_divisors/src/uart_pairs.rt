@@ -5,11 +5,10 @@ use uart_best::BestPair;
 use uart_best::best_baud_divisors;
 ghost use Rattle.uart_best.specs.Best.{Right};
 ghost use Rattle.handing.specs.Handed.{Handed};
-ghost use Rattle.archive.specs.Words.{baudWords};
+ghost use Rattle.hand_divisors.specs.Words.{baudWords};
 
 // Three words: the clock divisor, the baud divider, the error's bits.
-#[no_mangle]
-pub extern "C" fn ogr_uart_best(reference: u32, baud: u32, out: &mut [u32]) -> u64
+pub fn hand_uart_best(reference: u32, baud: u32, out: &mut [u32]) -> u64
     ensures { λ r. ⌜ Handed baudWords 3 (Right reference baud) (now (out .entry)) r (now (out .exit)) ⌝ }
 {
     if out.len() < 3 {
