@@ -105,14 +105,42 @@ enum ogr_io_clock {
 /* The PLLs by number. */
 enum ogr_pll { OGR_PLL_ARM, OGR_PLL_DDR, OGR_PLL_IO };
 
+/* A PLL's mark: it was started by ogr_pll_start_once. */
+#define OGR_MARK(pll) (UINT32_C(1) << (pll))
+
+/* The row in which a caller keeps a run of the PLL sequence: its state, and behind that what the host is to do. */
+enum ogr_pll_row {
+    OGR_ROW_PLL,      /* an ogr_pll */
+    OGR_ROW_BYPASSED, /* 0 or 1 */
+    OGR_ROW_FDIV,
+    OGR_ROW_CHARGE_PUMP,
+    OGR_ROW_LOOP_RESISTOR,
+    OGR_ROW_LOCK_COUNT,
+    OGR_ROW_DONE,    /* how many rows of document 01's sequence are done, at most 12 */
+    OGR_ROW_POLLS,   /* polls left, at most 65535 */
+    OGR_ROW_WORD,    /* what was last read or written */
+    OGR_ROW_REQUEST, /* what the host is to do, an ogr_request */
+    OGR_ROW_NUMBER,  /* the image's word to be read or written, else 0 */
+    OGR_ROW_VALUE,   /* what is to be written there, else 0 */
+    OGR_ROW_WORDS
+};
+
+/* What the host is to do for a run. */
+enum ogr_request {
+    OGR_READ,
+    OGR_WRITE,
+    OGR_LOCKED,   /* nothing more: the PLL is in use */
+    OGR_TIMED_OUT /* nothing more: no poll is left, OGR_LOCK_TIMEOUT */
+};
+
 /* Words of an image: word i is the SLCR register at offset 0x100 + 4i. */
 #define OGR_IMAGE_WORDS 50
 
 /* The most viable baud pairs that there can be. */
 #define OGR_MOST_BAUD_PAIRS 251
 
-/* The most accesses that ogr_pll_run can make: so many words read, and 7 writes. */
-#define OGR_MOST_ACCESSES(reads_len) ((size_t)(reads_len) + 7)
+/* The most accesses that ogr_pll_run can make: so many words read, and 6 writes. */
+#define OGR_MOST_ACCESSES(reads_len) ((size_t)(reads_len) + 6)
 
 /* How ogr_pll_run ends where the words to be read run out; not a refusal. */
 #define OGR_STARVED UINT32_C(0xFFFFFFFF)
@@ -194,6 +222,32 @@ uint64_t ogr_pll_target(uint32_t crystal, uint32_t target, uint32_t *out, size_t
 uint64_t ogr_pll_run(uint8_t pll, bool bypassed, uint8_t fdiv, uint8_t charge_pump, uint8_t loop_resistor, uint16_t lock_count,
                      uint16_t limit, const uint32_t *reads, size_t reads_len, uint32_t *kinds, size_t kinds_len,
                      uint32_t *numbers, size_t numbers_len, uint32_t *values, size_t values_len);
+
+/*
+ * The same sequence one register access a step, for a host that has the registers: the row keeps the run and says what to do.
+ * Starts a run whatever was started before, marks nothing, and takes the first step: the row then asks for the first read.
+ * row: OGR_ROW_WORDS words, as ogr_pll_row orders them.
+ * Refusals: OGR_NO_ROOM (OGR_ROW_WORDS); then OGR_BAD_LIMIT and OGR_BAD_FIELD as in ogr_pll_run.
+ */
+uint64_t ogr_pll_start(uint8_t pll, bool bypassed, uint8_t fdiv, uint8_t charge_pump, uint8_t loop_resistor, uint16_t lock_count,
+                       uint16_t limit, uint32_t *row, size_t row_len);
+
+/*
+ * The same for a PLL that is not marked as started; it is from then on, even if the run times out. `marks` has the OGR_MARK of each PLL
+ * that was started, and any other bit of it is ignored; ogr_carried() of an answer is the marks after the start. A refusal changes no
+ * mark: the caller's stand.
+ * Refusals: those of ogr_pll_start; then OGR_ALREADY.
+ */
+uint64_t ogr_pll_start_once(uint8_t pll, bool bypassed, uint8_t fdiv, uint8_t charge_pump, uint8_t loop_resistor,
+                            uint16_t lock_count, uint16_t limit, uint32_t marks, uint32_t *row, size_t row_len);
+
+/*
+ * The next step of a run, once the host has done what the row asks for. `word` is what it read; after a write it is ignored. The row is
+ * written anew. After OGR_LOCKED each step gives OGR_LOCKED again, and after OGR_TIMED_OUT each gives OGR_LOCK_TIMEOUT again.
+ * Refusals: OGR_NO_ROOM (OGR_ROW_WORDS); OGR_BAD_FIELD where a word before OGR_ROW_WORD is one that no run has. OGR_LOCK_TIMEOUT
+ * alone writes the row: the accesses made stand, and it asks for no more.
+ */
+uint64_t ogr_pll_step(uint32_t word, uint32_t *row, size_t row_len);
 
 /* ---- UART ---- */
 

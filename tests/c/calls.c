@@ -1,6 +1,7 @@
 /* Calls every function of the archive from C: document 01's cases, each refusal with what it carries, rows too short, and words that
  * have to stay. */
 #include "check.h"
+#include "sequence.h"
 
 static void two_stage(void)
 {
@@ -68,81 +69,6 @@ static void pll_settings(void)
     NO_ROOM(4, ogr_pll_target(0, 5, row, len));
 }
 
-struct plan {
-    uint8_t pll;
-    bool bypassed;
-    uint8_t fdiv, charge_pump, loop_resistor;
-    uint16_t lock_count, limit;
-};
-
-enum { ACCESSES = 20 };
-typedef uint32_t access[3];
-
-/* The accesses wanted stand at the front of the three rows, and all behind them is blank. */
-static void run_is(int line, struct plan p, const uint32_t *reads, size_t reads_len, const size_t room[3],
-                   uint64_t want, const access *accesses, size_t count)
-{
-    uint32_t rows[3][ACCESSES];
-    for (size_t i = 0; i < 3 * ACCESSES; i++)
-        rows[i / ACCESSES][i % ACCESSES] = BLANK;
-    const uint64_t got = ogr_pll_run(p.pll, p.bypassed, p.fdiv, p.charge_pump, p.loop_resistor, p.lock_count, p.limit,
-                                     reads, reads_len, rows[0], room[0], rows[1], room[1], rows[2], room[2]);
-    told(line, "ogr_pll_run", got, ogr_number(want), ogr_carried(want));
-    for (size_t i = 0; i < 3 * ACCESSES; i++) {
-        const size_t at = i / 3, part = i % 3;
-        same(line, "ogr_pll_run", "the log", rows[part][at], at < count ? accesses[at][part] : BLANK);
-    }
-}
-
-static uint64_t ends(uint32_t number, uint32_t carried) { return number | (uint64_t)carried << 32; }
-
-/* The DDR PLL, booted bypassed, sees another's lock bits and then its own. */
-static void pll_locks(void)
-{
-    const uint32_t reads[] = {UINT32_MAX, UINT32_MAX, UINT32_MAX, 0, 5, 2, 0x10};
-    const access log[] = {{0, 1, UINT32_MAX}, {1, 1, 0xFFFA8FFF}, {0, 5, UINT32_MAX}, {1, 5, 0xFFCFA22F}, {0, 1, UINT32_MAX},
-                          {1, 1, 0xFFFFFFF5}, {0, 1, 0}, {1, 1, 1}, {1, 1, 0}, {0, 3, 5}, {0, 3, 2}, {0, 1, 0x10}, {1, 1, 0}};
-    const struct plan plan = {OGR_PLL_DDR, true, 40, 2, 2, 250, 9};
-    const size_t enough[] = {OGR_MOST_ACCESSES(7), 13, ACCESSES};
-    run_is(__LINE__, plan, reads, 7, enough, ends(0, 13), log, 13);
-    for (size_t i = 0; i < 3; i++) {
-        size_t short_row[] = {13, 13, 13};
-        short_row[i] = 12;
-        run_is(__LINE__, plan, reads, 7, short_row, ends(OGR_NO_ROOM, 13), NULL, 0);
-    }
-}
-
-/* After two clear polls no more is asked for, and what was done stands. Where the words end, so does the run. */
-static void pll_does_not_lock(void)
-{
-    const uint32_t reads[] = {0, 5, 2, 0x10, 6, 0, 1, 0};
-    const access log[] = {{0, 0, 0}, {1, 0, 0xD000}, {0, 4, 5}, {1, 4, 0x2EE265}, {0, 0, 2}, {1, 0, 0x10},
-                          {0, 0, 0x10}, {1, 0, 0x11}, {1, 0, 0x10}, {0, 3, 6}, {0, 3, 0}};
-    const struct plan plan = {OGR_PLL_ARM, false, 13, 2, 6, 750, 2};
-    const size_t room[] = {11, 11, 11}, none[] = {0, 0, 0};
-    run_is(__LINE__, plan, reads, 8, room, ends(OGR_LOCK_TIMEOUT, 11), log, 11);
-    run_is(__LINE__, plan, reads, 8, none, ends(OGR_NO_ROOM, 11), NULL, 0);
-    run_is(__LINE__, plan, reads, 5, room, ends(OGR_STARVED, 10), log, 10);
-    run_is(__LINE__, plan, reads, 3, room, ends(OGR_STARVED, 6), log, 6);
-    run_is(__LINE__, plan, NULL, 0, none, ends(OGR_STARVED, 0), NULL, 0);
-}
-
-static void pll_is_not_started(void)
-{
-    const struct plan wide[] = {{OGR_PLL_IO, false, 128, 15, 15, 1023, 1}, {OGR_PLL_IO, false, 127, 16, 15, 1023, 1},
-                                {OGR_PLL_IO, false, 127, 15, 16, 1023, 1}, {OGR_PLL_IO, false, 127, 15, 15, 1024, 1},
-                                {3, false, 127, 15, 15, 1023, 1}};
-    const struct plan no_limit = {3, false, 128, 16, 16, 1024, 0}, widest = {OGR_PLL_IO, false, 127, 15, 15, 1023, 65535};
-    const uint32_t reads[] = {0, 0, 0, 0, 4, 0};
-    const size_t room[] = {12, 12, 12}, none[] = {0, 0, 0};
-    for (size_t i = 0; i < sizeof wide / sizeof *wide; i++) {
-        run_is(__LINE__, wide[i], reads, 6, room, OGR_BAD_FIELD, NULL, 0);
-        run_is(__LINE__, wide[i], reads, 6, none, OGR_BAD_FIELD, NULL, 0);
-    }
-    run_is(__LINE__, no_limit, reads, 6, room, OGR_BAD_LIMIT, NULL, 0);
-    run_is(__LINE__, widest, reads, 6, none, ends(OGR_NO_ROOM, 12), NULL, 0);
-}
-
 static void uart(void)
 {
     ANSWERS(ogr_uart_best(48000, 9600, row, ROOM), 1, 4, 0);
@@ -157,18 +83,18 @@ enum { RECORDS = 4 };
 static struct ogr_baud_divisors records[RECORDS];
 
 /* The pairs wanted stand at the front, and the records behind them are as they were lent. */
-static void list_is(int line, uint32_t reference, uint32_t baud, size_t room, uint32_t number, uint32_t carried,
+static void list_is(struct place here, uint32_t reference, uint32_t baud, size_t room, uint32_t number, uint32_t carried,
                     const struct ogr_baud_divisors *want, size_t count)
 {
     const struct ogr_baud_divisors before = {0x5A5A, 0xA5, -1.0f};
     for (size_t i = 0; i < RECORDS; i++)
         records[i] = before;
-    told(line, "ogr_uart_list", ogr_uart_list(reference, baud, records, room), number, carried);
+    told(here, "ogr_uart_list", ogr_uart_list(reference, baud, records, room), number, carried);
     for (size_t i = 0; i < RECORDS; i++) {
         const struct ogr_baud_divisors *wanted = i < count ? &want[i] : &before;
-        same(line, "ogr_uart_list", "cd", records[i].cd, wanted->cd);
-        same(line, "ogr_uart_list", "bdiv", records[i].bdiv, wanted->bdiv);
-        same(line, "ogr_uart_list", "the error", memcmp(&records[i].error, &wanted->error, sizeof(float)) == 0, true);
+        same(here, "ogr_uart_list", "cd", records[i].cd, wanted->cd);
+        same(here, "ogr_uart_list", "bdiv", records[i].bdiv, wanted->bdiv);
+        same(here, "ogr_uart_list", "the error", memcmp(&records[i].error, &wanted->error, sizeof(float)) == 0, true);
     }
 }
 
@@ -176,13 +102,13 @@ static void uart_list(void)
 {
     const struct ogr_baud_divisors exact[] = {{2, 4, 0.0f}, {1, 9, 0.0f}};
     const struct ogr_baud_divisors off[] = {{2, 4, 10.0f / 9600.0f}, {1, 9, 10.0f / 9600.0f}};
-    list_is(__LINE__, 96000, 9600, 4, 0, 2, exact, 2);
-    list_is(__LINE__, 96000, 9600, 2, 0, 2, exact, 2);
-    list_is(__LINE__, 96100, 9600, 3, 0, 2, off, 2);
-    list_is(__LINE__, 96000, 9600, 1, 9, 2, NULL, 0);
-    list_is(__LINE__, 96000, 9600, 0, 9, 2, NULL, 0);
-    list_is(__LINE__, 24000, 9600, 4, 0, 0, NULL, 0);
-    list_is(__LINE__, 96000, 0, 0, 0, 0, NULL, 0);
+    list_is(HERE, 96000, 9600, 4, 0, 2, exact, 2);
+    list_is(HERE, 96000, 9600, 2, 0, 2, exact, 2);
+    list_is(HERE, 96100, 9600, 3, 0, 2, off, 2);
+    list_is(HERE, 96000, 9600, 1, 9, 2, NULL, 0);
+    list_is(HERE, 96000, 9600, 0, 9, 2, NULL, 0);
+    list_is(HERE, 24000, 9600, 4, 0, 0, NULL, 0);
+    list_is(HERE, 96000, 0, 0, 0, 0, NULL, 0);
 }
 
 static uint32_t image[OGR_IMAGE_WORDS + 1];
@@ -275,8 +201,8 @@ static void io_update(void)
         for (size_t i = 0; i < OGR_CLOCK_WORDS; i++)
             want[i] = i == first + which ? 77 : BLANK;
         blank_row();
-        told(__LINE__, "ogr_io_update", ogr_io_update(which, 77, row, OGR_CLOCK_WORDS), 0, 0);
-        row_is(__LINE__, "ogr_io_update", want, OGR_CLOCK_WORDS);
+        told(HERE, "ogr_io_update", ogr_io_update(which, 77, row, OGR_CLOCK_WORDS), 0, 0);
+        row_is(HERE, "ogr_io_update", want, OGR_CLOCK_WORDS);
     }
     REFUSES(ogr_io_update(7, 77, row, 26), 20, 0);
     REFUSES(ogr_io_update(UINT32_MAX, 77, row, 26), 20, 0);
@@ -306,6 +232,7 @@ static void set_up(void)
 int main(void)
 {
     void (*const all[])(void) = {two_stage, i2c, ttc, pll_settings, pll_locks, pll_does_not_lock, pll_is_not_started,
+                                 pll_steps, pll_steps_time_out, pll_steps_from_no_run, pll_starts_once, pll_starts_unchecked,
                                  uart, uart_list, clocks, zero_divisors, gem, io_update, set_up};
     for (size_t i = 0; i < sizeof all / sizeof *all; i++)
         all[i]();

@@ -1,5 +1,6 @@
 //! An answer in plain numbers, and its line in the desk program's format.
 use crate::request::Subject;
+use crate::starts;
 use std::fmt::Write;
 
 /// Not a refusal but the end of a sequence whose host had no word left to return.
@@ -8,6 +9,8 @@ pub const STARVED: u32 = u32::MAX;
 pub const STRAY: u32 = u32::MAX - 1;
 /// Nor this: a row too short was not refused.
 pub const CRAMPED: u32 = u32::MAX - 2;
+/// Nor this: a run by steps was another than the same run at once, or went on behind its end.
+pub const APART: u32 = u32::MAX - 3;
 /// Refusals that carry a number: a module, the Pll module, the multiplier, a count.
 const CARRYING: [u32; 4] = [2, 3, 5, 9];
 /// Where an evaluation's numbers have the trace clock, and whether it is EMIO's.
@@ -17,7 +20,7 @@ const EMIO: usize = 25;
 /// Zero or a refusal's number, what the refusal carries, and the numbers given or left in lent memory.
 ///
 /// A sequence's numbers are three for each access: 0 for a read or 1 for a write, the word, the value. A list's
-/// are how many pairs there are, then three for each lent record.
+/// are how many pairs there are, then three for each lent record. Those of starts are as `starts` orders them.
 #[derive(Clone, Debug, PartialEq, Eq)]
 pub struct Answer {
     pub refused: u32,
@@ -46,10 +49,14 @@ impl Answer {
         }
     }
 
+    /// Whether it is no answer but something that went wrong.
+    pub fn is_amiss(&self) -> bool {
+        matches!(self.refused, STRAY | CRAMPED | APART)
+    }
+
     /// The desk's line.
     pub fn line(&self, subject: Subject) -> String {
-        let amiss = matches!(self.refused, STRAY | CRAMPED);
-        if subject == Subject::PllSeq && !self.numbers.is_empty() && !amiss {
+        if subject == Subject::PllSeq && !self.numbers.is_empty() && !self.is_amiss() {
             return self.sequence();
         }
         if self.refused != 0 {
@@ -68,6 +75,7 @@ impl Answer {
             }
             Subject::UartList => self.list(),
             Subject::Clocks | Subject::Update => self.clocks(),
+            Subject::Starts => starts::line(&self.numbers),
             _ => self.plain(),
         }
     }
@@ -80,6 +88,7 @@ impl Answer {
                 "did not refuse a row too short, and left {:x?}",
                 self.numbers
             ),
+            APART => format!("went another way by steps, and left {:x?}", self.numbers),
             number if CARRYING.contains(&number) => format!("refused {number} {}", self.carried),
             number => format!("refused {number}"),
         }

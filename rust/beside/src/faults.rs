@@ -2,7 +2,8 @@
 use crate::answer::Answer;
 use crate::judge::{READS_BEFORE_POLLS, judged};
 use crate::plain::{Uart, i2c, two_stage};
-use crate::request::{Request, Start, Subject};
+use crate::plain_starts::Starts;
+use crate::request::{Request, Subject};
 use crate::side::Side;
 
 /// Each slip with the subjects in which it can show.
@@ -33,7 +34,15 @@ faults! {
     GemStopsUnderEmio: Gem;
     QualifierAlwaysCleared: PllSeq;
     TimeoutOnePollLate: PllSeq;
+    StartNeverMarks: Starts;
     UncheckedStartMarks: Starts;
+    RefusedStartMarks: Starts;
+    TimeoutUnmarks: Starts;
+    MarksInEvaluationOrder: Starts;
+    OneMarkForAll: Starts;
+    AlreadyBeforeOthers: Starts;
+    AlreadyAccesses: Starts;
+    FirstSettingKept: Starts;
     LastOfTableLeftOut: PllMul PllTarget;
     LimitOfI2cShort: I2c;
     TicksOf65536: Ttc;
@@ -47,11 +56,12 @@ faults! {
 }
 
 /// Where [`Faulty`] answers by formulas of our own, which without a fault must be right.
-pub const OWN_FORMULAS: [Subject; 4] = [
+pub const OWN_FORMULAS: [Subject; 5] = [
     Subject::TwoStage,
     Subject::I2c,
     Subject::Uart,
     Subject::UartList,
+    Subject::Starts,
 ];
 
 /// Right answers but for the fault.
@@ -79,6 +89,7 @@ impl Side for Faulty {
             (fault, Subject::Uart) => uart(fault).best(n[0], n[1]),
             (Fault::RecordWrittenWithoutRoom, Subject::UartList) => written_before_9(right()),
             (fault, Subject::UartList) => uart(fault).list(n[0], n[1], n[2]),
+            (fault, Subject::Starts) => starts(fault).told(request),
             (fault, _) => from_the_original(fault, request),
         }
     }
@@ -94,6 +105,20 @@ fn uart(fault: Fault) -> Uart {
         limit_is_viable: fault == Fault::ErrorAtLimitViable,
         widest_cd: 65_535 + u32::from(fault == Fault::CdOf65536),
         last_divider: 254 + u32::from(fault == Fault::DividerOf255),
+    }
+}
+
+fn starts(fault: Fault) -> Starts {
+    Starts {
+        never_marks: fault == Fault::StartNeverMarks,
+        unchecked_marks: fault == Fault::UncheckedStartMarks,
+        refused_marks: fault == Fault::RefusedStartMarks,
+        timeout_unmarks: fault == Fault::TimeoutUnmarks,
+        marks_swapped: fault == Fault::MarksInEvaluationOrder,
+        one_for_all: fault == Fault::OneMarkForAll,
+        already_first: fault == Fault::AlreadyBeforeOthers,
+        already_accesses: fault == Fault::AlreadyAccesses,
+        first_setting: fault == Fault::FirstSettingKept,
     }
 }
 
@@ -116,7 +141,6 @@ fn from_the_original(fault: Fault, request: &Request) -> Answer {
         {
             return Answer::given([0]);
         }
-        (Fault::UncheckedStartMarks, Subject::Starts) => return unchecked_starts_mark(asked),
         _ => {}
     }
     let mut answer = judged(&asked).0;
@@ -156,25 +180,4 @@ fn written_before_9(mut answer: Answer) -> Answer {
         answer.numbers[0] = 1;
     }
     answer
-}
-
-/// Each unchecked start is followed by a checked one that nobody asked for.
-fn unchecked_starts_mark(mut request: Request) -> Answer {
-    let asked = request.numbers.clone();
-    let both = |&number: &u32| {
-        let start = Start::unpacked(number);
-        let marks = start.unchecked && !start.no_limit && !start.too_wide;
-        std::iter::once(number).chain(marks.then_some(start.pll))
-    };
-    request.numbers = asked.iter().flat_map(both).collect();
-    let ends = judged(&request).0.numbers;
-    let mut ends = ends.into_iter();
-    let told = asked.iter().filter_map(|number| {
-        let end = ends.next();
-        both(number).skip(1).for_each(|_| {
-            ends.next();
-        });
-        end
-    });
-    Answer::given(told.collect::<Vec<u32>>())
 }

@@ -1,9 +1,10 @@
 //! What an answer has to be, and who says so: the original wherever it has an answer, and document 01 alone
 //! outside the differential domain.
-use crate::answer::Answer;
-use crate::request::{Request, Start, Subject, WORDS};
-use crate::rust_side::Original;
+use crate::answer::{Answer, STARVED};
+use crate::request::{Request, Subject, WORDS};
+use crate::rust_side::{self, Original};
 use crate::side::Side;
+use crate::starts::{Start, Told};
 
 #[derive(Clone, Copy, Debug, PartialEq, Eq)]
 pub enum By {
@@ -18,6 +19,9 @@ const ARM: u32 = 2;
 pub const READS_BEFORE_POLLS: usize = 4;
 
 pub fn judged(request: &Request) -> (Answer, By) {
+    if request.subject == Subject::Starts {
+        return starts(request);
+    }
     match ruled(request) {
         Some(answer) => (answer, By::Rule),
         None => (Original.answer(request), By::Rust),
@@ -36,7 +40,6 @@ pub fn ruled(request: &Request) -> Option<Answer> {
         Subject::CpuInit => plain_divisors(&n[2..], ARM),
         Subject::DdrInit => plain_divisors(&n[1..], DDR),
         Subject::PllSeq => sequence(request),
-        Subject::Starts => starts(n),
         _ => None,
     }
 }
@@ -69,47 +72,66 @@ fn plain_divisors(divisors: &[u32], module: u32) -> Option<Answer> {
 }
 
 fn sequence(request: &Request) -> Option<Answer> {
-    let n = &request.numbers[..];
-    let (setting, limit) = (&n[2..6], n[6] as usize);
-    if limit == 0 {
-        return Some(Answer::refused(12));
+    if let Some(number) = unfit(&request.numbers) {
+        return Some(Answer::refused(number));
     }
-    let widest = [127, 15, 15, 1023];
-    if setting
-        .iter()
-        .zip(widest)
-        .any(|(&field, most)| field > most)
-    {
-        return Some(Answer::refused(20));
-    }
-    let polls = request.words().get(READS_BEFORE_POLLS..)?.get(..limit)?;
-    if polls.iter().any(|status| status >> n[0] & 1 == 1) {
-        return None;
-    }
-    // The accesses up to the last allowed poll are those that the original makes when it is left waiting there.
-    let mut waiting = request.clone();
-    waiting.numbers.truncate(7 + READS_BEFORE_POLLS + limit);
-    let mut answer = Original.answer(&waiting);
+    let mut answer = Original.answer(&waiting(request)?);
     answer.refused = 11;
     Some(answer)
 }
 
-/// The refused starts change no mark, so the original is asked the others alone.
-fn starts(numbers: &[u32]) -> Option<Answer> {
-    let refusal = |&number: &u32| match Start::unpacked(number) {
-        start if start.no_limit => 12,
-        start if start.too_wide => 20,
-        _ => 0,
+/// The refusal of a limit 0 or of a setting too wide.
+fn unfit(n: &[u32]) -> Option<u32> {
+    let (setting, limit) = (&n[2..6], n[6]);
+    let widest = [127, 15, 15, 1023];
+    let wide = || {
+        setting
+            .iter()
+            .zip(widest)
+            .any(|(&field, most)| field > most)
     };
-    let mut ends: Vec<u32> = numbers.iter().map(refusal).collect();
-    if ends.iter().all(|&end| end == 0) {
-        return None;
+    match limit {
+        0 => Some(12),
+        _ => wide().then_some(20),
     }
-    let asked = numbers.iter().zip(&ends).filter(|(_, end)| **end == 0);
-    let asked = Request::new(Subject::Starts, asked.map(|(&number, _)| number).collect());
-    let mut given = Original.answer(&asked).numbers.into_iter();
-    for end in ends.iter_mut().filter(|end| **end == 0) {
-        *end = given.next().expect("one answer for each start");
+}
+
+/// Where every allowed poll shows the bit clear: the sequence up to the last of them. The accesses are those that the
+/// original makes when it is left waiting there.
+fn waiting(request: &Request) -> Option<Request> {
+    let n = &request.numbers[..];
+    let limit = n[6] as usize;
+    let polls = request.words().get(READS_BEFORE_POLLS..)?.get(..limit)?;
+    let seen = polls.iter().any(|status| status >> n[0] & 1 == 1);
+    let words = n[..7 + READS_BEFORE_POLLS + limit].to_vec();
+    (!seen).then(|| Request::new(Subject::PllSeq, words))
+}
+
+/// Start by start on one device. A start that is refused changes no mark, so the original is not asked it.
+fn starts(request: &Request) -> (Answer, By) {
+    let mut told = Told::default();
+    let mut judge = By::Rust;
+    original::new_device();
+    for start in Start::all(&request.numbers) {
+        let (became, by) = started(&start);
+        if by == By::Rule {
+            judge = By::Rule;
+        }
+        told.add(&became, original::marks());
     }
-    Some(Answer::given(ends))
+    (told.answer(), judge)
+}
+
+fn started(start: &Start) -> (Answer, By) {
+    let sequence = &start.sequence;
+    if let Some(number) = unfit(&sequence.numbers) {
+        return (Answer::refused(number), By::Rule);
+    }
+    let waiting = waiting(sequence);
+    let mut became = rust_side::start(!start.unchecked, waiting.as_ref().unwrap_or(sequence));
+    if waiting.is_some() && became.refused == STARVED {
+        became.refused = 11;
+        return (became, By::Rule);
+    }
+    (became, By::Rust)
 }

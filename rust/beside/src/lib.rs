@@ -12,7 +12,12 @@ mod judge;
 pub mod lists;
 #[cfg(archive)]
 pub mod ours;
+#[cfg(archive)]
+mod ours_pll;
+#[cfg(archive)]
+mod ours_steps;
 mod plain;
+mod plain_starts;
 mod progress;
 pub mod report;
 pub mod request;
@@ -21,6 +26,7 @@ mod rust_side;
 pub mod selftest;
 mod shrink;
 pub mod side;
+mod starts;
 #[cfg(archive)]
 pub mod timed_ours;
 pub mod timed_rust;

@@ -56,10 +56,6 @@ fn compared(subjects: &[Subject], plan: Plan, ours: Ours) -> bool {
     let mut all = Tally::default();
     for &subject in subjects {
         let name = subject.name();
-        if !(ours.exported)(subject) {
-            println!("{name:15} is not exported: not compared");
-            continue;
-        }
         match compare::subject(subject, plan, ours.side) {
             Ok(tally) => {
                 println!("{name:15} {tally}");
@@ -119,14 +115,12 @@ fn called(side: &str, args: &Args) -> Result<bool, String> {
 struct Ours {
     side: &'static dyn Side,
     timed: Timed,
-    exported: fn(Subject) -> bool,
 }
 
 #[cfg(archive)]
 const OURS: Option<Ours> = Some(Ours {
     side: &beside::ours::Ours,
     timed: beside::timed_ours::timed,
-    exported: beside::ours::exported,
 });
 #[cfg(not(archive))]
 const OURS: Option<Ours> = None;

@@ -1,25 +1,19 @@
 //! Our answers, through the static library, with an eye on every lent word.
-use crate::answer::{Answer, CRAMPED, STARVED, STRAY};
+use crate::answer::{Answer, CRAMPED, STRAY};
+use crate::ours_pll::{sequence, starts};
 use crate::request::{Request, Subject};
 use crate::side::{Side, UNTOUCHED};
-use ogruspinu::raw::{self, PllLog, PllPlan, halves};
+use ogruspinu::raw::{self, halves};
 use ogruspinu::uart::BaudDivisors;
 
 pub struct Ours;
 
 /// What a lent word holds before the call.
-const BLANK: u32 = 0xA5A5_5A5A;
+pub const BLANK: u32 = 0xA5A5_5A5A;
 /// More words than any answer of fixed length has.
 const MOST: usize = 32;
 /// Words of an evaluation.
 const CLOCKS: usize = 26;
-/// Accesses of a sequence that are not reads.
-const WRITES: usize = 7;
-
-/// Whether there is an exported function to ask.
-pub fn exported(subject: Subject) -> bool {
-    subject != Subject::Starts
-}
 
 impl Side for Ours {
     fn answer(&self, request: &Request) -> Answer {
@@ -40,20 +34,20 @@ impl Side for Ours {
             Subject::Update => updated(n[0], n[1], n[2], request.words()),
             Subject::CpuInit => words::<4>(|out| raw::cpu_init(n[0], n[1] == 1, n[2], out)),
             Subject::DdrInit => words::<2>(|out| raw::ddr_init(n[0], n[1], n[2], out)),
-            Subject::PllSeq => sequence(n, request.words()),
-            Subject::Starts => unreachable!("it is not exported"),
+            Subject::PllSeq => sequence(request),
+            Subject::Starts => starts(n),
         }
     }
 }
 
 /// What went wrong, with the lent memory as it was left.
-fn amiss(what: u32, lent: &[u32]) -> Answer {
+pub fn amiss(what: u32, lent: &[u32]) -> Answer {
     let mut answer = Answer::refused(what);
     answer.numbers = lent.to_vec();
     answer
 }
 
-fn blank(lent: &[u32]) -> bool {
+pub fn blank(lent: &[u32]) -> bool {
     lent.iter().all(|&word| word == BLANK)
 }
 
@@ -118,64 +112,5 @@ fn updated(which: u32, hertz: u32, crystal: u32, image: &[u32]) -> Answer {
     match raw::io_update(which, hertz, &mut evaluated.numbers) {
         0 => evaluated,
         told => number(told),
-    }
-}
-
-fn sequence(n: &[u32], reads: &[u32]) -> Answer {
-    let plan = plan(n);
-    let most = reads.len() + WRITES;
-    let mut rows = [0; 3].map(|_| vec![BLANK; most]);
-    let told = raw::pll_run(plan, reads, log(&mut rows, [most; 3]));
-    let (end, high) = halves(told);
-    let count = if matches!(end, 0 | 11 | STARVED) {
-        high as usize
-    } else {
-        0
-    };
-    let left = |row: &Vec<u32>| row.get(count..).is_some_and(blank);
-    if !rows.iter().all(left) {
-        return amiss(STRAY, &rows.concat());
-    }
-    let entry = |i: usize| [rows[0][i], rows[1][i], rows[2][i]];
-    let numbers: Vec<u32> = (0..count).flat_map(entry).collect();
-    if count > 0 && !refuses_short_rows(plan, reads, count) {
-        return amiss(CRAMPED, &numbers);
-    }
-    let mut answer = Answer::carrying(end, if count > 0 { 0 } else { high });
-    answer.numbers = numbers;
-    answer
-}
-
-/// Any one row that is shorter than the accesses are many.
-fn refuses_short_rows(plan: PllPlan, reads: &[u32], count: usize) -> bool {
-    (0..3).all(|row| {
-        let mut rows = [0; 3].map(|_| vec![BLANK; count]);
-        let mut room = [count; 3];
-        room[row] -= 1;
-        let told = raw::pll_run(plan, reads, log(&mut rows, room));
-        halves(told) == (9, count as u32) && rows.iter().all(|row| blank(row))
-    })
-}
-
-fn log([kinds, numbers, values]: &mut [Vec<u32>; 3], room: [usize; 3]) -> PllLog<'_> {
-    PllLog {
-        kinds: &mut kinds[..room[0]],
-        numbers: &mut numbers[..room[1]],
-        values: &mut values[..room[2]],
-    }
-}
-
-/// The numbers of a request before its words.
-pub fn plan(n: &[u32]) -> PllPlan {
-    let byte = |number: u32| u8::try_from(number).expect("the generator keeps to the types");
-    let short = |number: u32| u16::try_from(number).expect("the generator keeps to the types");
-    PllPlan {
-        pll: byte(n[0]),
-        bypassed: n[1] == 1,
-        fdiv: byte(n[2]),
-        charge_pump: byte(n[3]),
-        loop_resistor: byte(n[4]),
-        lock_count: short(n[5]),
-        limit: short(n[6]),
     }
 }

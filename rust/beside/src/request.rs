@@ -1,4 +1,5 @@
 //! A request in plain numbers, and its line in the desk program's format.
+use crate::starts::Start;
 use std::fmt::{self, Display, Formatter};
 
 /// Words of an image.
@@ -39,7 +40,7 @@ pub enum Subject {
     DdrInit,
     /// PLL (0 ARM, 1 DDR, 2 IO), booted bypassed, the setting's four numbers, limit, the words that the host reads
     PllSeq,
-    /// a start each, as [`Start`] packs it
+    /// the numbers of each start, as [`Start`] has them
     Starts,
 }
 
@@ -127,6 +128,9 @@ impl Request {
 impl Display for Request {
     fn fmt(&self, f: &mut Formatter<'_>) -> fmt::Result {
         write!(f, "{}", self.subject.name())?;
+        if self.subject == Subject::Starts {
+            return Start::all(&self.numbers).try_for_each(|start| write!(f, "\n    {start}"));
+        }
         for (i, &number) in self.numbers.iter().enumerate() {
             match (self.subject, i) {
                 (Subject::I2c, 1) => write!(f, " {}", ["normal", "fast"][number as usize])?,
@@ -134,46 +138,9 @@ impl Display for Request {
                 // The desk always lends enough records.
                 (Subject::UartList, 2) if number == ROOM => {}
                 (Subject::UartList, 2) => write!(f, " (room for {number})")?,
-                (Subject::Starts, _) => write!(f, " {}", Start::unpacked(number))?,
                 _ if i < self.subject.plain_numbers() => write!(f, " {number}")?,
                 _ => write!(f, " {number:08x}")?,
             }
-        }
-        Ok(())
-    }
-}
-
-/// One start of a PLL in a run of starts.
-#[derive(Clone, Copy, Debug)]
-pub struct Start {
-    pub pll: u32,
-    pub unchecked: bool,
-    pub no_limit: bool,
-    pub too_wide: bool,
-}
-
-impl Start {
-    /// The PLL in bits 1:0, then a bit for each of the others.
-    pub fn unpacked(number: u32) -> Self {
-        Self {
-            pll: number % 4 % 3,
-            unchecked: number & 4 != 0,
-            no_limit: number & 8 != 0,
-            too_wide: number & 16 != 0,
-        }
-    }
-}
-
-impl Display for Start {
-    fn fmt(&self, f: &mut Formatter<'_>) -> fmt::Result {
-        write!(f, "{}", PLLS[self.pll as usize])?;
-        let marked = [
-            (self.unchecked, "+unchecked"),
-            (self.no_limit, "+no-limit"),
-            (self.too_wide, "+too-wide"),
-        ];
-        for (_, mark) in marked.iter().filter(|(given, _)| *given) {
-            write!(f, "{mark}")?;
         }
         Ok(())
     }

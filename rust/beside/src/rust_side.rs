@@ -1,14 +1,10 @@
 //! The original's answers. It is asked only what it can answer (see `judge`).
 use crate::answer::{Answer, STARVED};
-use crate::request::{Request, Start, Subject};
+use crate::request::{Request, Subject};
 use crate::side::{Side, UNTOUCHED};
 use original::{Access, Pll, Refused, WORDS};
 
 pub struct Original;
-
-/// A setting and words with which every start runs to its lock at the first poll.
-const ANY_SETTING: [u32; 4] = [40, 2, 2, 250];
-const AT_ONCE: [u32; 6] = [0, 0, 0, 0, 7, 0];
 
 impl Side for Original {
     fn answer(&self, request: &Request) -> Answer {
@@ -40,8 +36,8 @@ impl Side for Original {
             Subject::Update => evaluated(original::updated(n[0], n[1], n[2], image(request))),
             Subject::CpuInit => Answer::given(original::cpu_init(n[0], n[1] == 1, n[2])),
             Subject::DdrInit => Answer::given(original::ddr_init(n[0], n[1], n[2])),
-            Subject::PllSeq => sequence(n, request.words()),
-            Subject::Starts => starts(n),
+            Subject::PllSeq => run(false, request),
+            Subject::Starts => unreachable!("the judge asks start by start"),
         }
     }
 }
@@ -95,31 +91,28 @@ fn image(request: &Request) -> &[u32; WORDS] {
     words.expect("the judge refuses any other length")
 }
 
-fn sequence(n: &[u32], reads: &[u32]) -> Answer {
-    let (log, locked) = original::run(pll(n[0]), n[1] == 1, [n[2], n[3], n[4], n[5]], reads);
+/// A run by the unchecked function, or by the once-only one.
+fn run(once: bool, request: &Request) -> Answer {
+    let n = &request.numbers[..];
+    let begin = if once { original::start } else { original::run };
+    let setting = [n[2], n[3], n[4], n[5]];
+    let (log, ended) = begin(pll(n[0]), n[1] == 1, setting, request.words());
     let entry = |access: &Access| match *access {
         Access::Read { word, value } => [0, word, value],
         Access::Write { word, value } => [1, word, value],
     };
     let mut answer = Answer::given(log.iter().flat_map(entry).collect::<Vec<u32>>());
-    answer.refused = if locked { 0 } else { STARVED };
+    answer.refused = if ended { 0 } else { STARVED };
     answer
 }
 
-/// For each start 0, or 13 where the original made no access at all.
-fn starts(numbers: &[u32]) -> Answer {
-    original::new_device();
-    let started = |&number: &u32| {
-        let start = Start::unpacked(number);
-        let begin = if start.unchecked {
-            original::run
-        } else {
-            original::start
-        };
-        let (log, _) = begin(pll(start.pll), false, ANY_SETTING, &AT_ONCE);
-        if log.is_empty() { 13 } else { 0 }
-    };
-    Answer::given(numbers.iter().map(started).collect::<Vec<u32>>())
+/// A start on the device as the starts before have left it: 13 where the original made no access at all.
+pub fn start(once: bool, request: &Request) -> Answer {
+    let became = run(once, request);
+    if became.refused == 0 && became.numbers.is_empty() {
+        return Answer::refused(13);
+    }
+    became
 }
 
 pub fn pll(number: u32) -> Pll {

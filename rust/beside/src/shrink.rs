@@ -2,6 +2,7 @@
 use crate::judge::judged;
 use crate::request::{Request, Subject};
 use crate::side::Side;
+use crate::starts;
 
 /// A first divisor up to this is tried in a moment.
 const FEW_DIVISORS: u32 = 100_000;
@@ -21,14 +22,8 @@ pub fn smallest(mut request: Request, ours: &dyn Side) -> Request {
     }
 }
 
-/// The same request with its last word left out, or with one of its numbers made smaller.
+/// The same request with something left out, or with one of its numbers made smaller.
 fn smaller(request: &Request) -> impl Iterator<Item = Request> + '_ {
-    let shorter = Some(request)
-        .filter(|request| shortens(request))
-        .map(|request| {
-            let numbers = &request.numbers[..request.numbers.len() - 1];
-            Request::new(request.subject, numbers.to_vec())
-        });
     let lower = request
         .numbers
         .iter()
@@ -40,14 +35,24 @@ fn smaller(request: &Request) -> impl Iterator<Item = Request> + '_ {
                 smaller
             })
         });
-    shorter.into_iter().chain(lower)
+    shorter(request).into_iter().chain(lower)
 }
 
-fn shortens(request: &Request) -> bool {
+/// Without the last word of a sequence, or without any one start.
+fn shorter(request: &Request) -> Vec<Request> {
+    let without = |part: std::ops::Range<usize>| {
+        let mut shorter = request.clone();
+        shorter.numbers.drain(part);
+        shorter
+    };
+    let length = request.numbers.len();
     match request.subject {
-        Subject::PllSeq => !request.words().is_empty(),
-        Subject::Starts => !request.numbers.is_empty(),
-        _ => false,
+        Subject::PllSeq if !request.words().is_empty() => vec![without(length - 1..length)],
+        Subject::Starts => (0..length)
+            .step_by(starts::NUMBERS)
+            .map(|start| without(start..start + starts::NUMBERS))
+            .collect(),
+        _ => Vec::new(),
     }
 }
 

@@ -1,7 +1,7 @@
 //! Our calls, to be timed: the safe crate's, as a program makes them, and the exported function itself where the
 //! crate's call does more than the original's.
 use crate::bench::{Inputs, Pass};
-use crate::ours::plan;
+use crate::ours_pll::plan;
 use crate::request::Subject;
 use ogruspinu::Refusal;
 use ogruspinu::clocks::{ArmClocks, Clocks, CpuClockRatio, DdrClocks};

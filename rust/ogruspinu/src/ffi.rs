@@ -33,6 +33,30 @@ unsafe extern "C" {
         values: *mut u32,
         values_len: usize,
     ) -> u64;
+    pub fn ogr_pll_start(
+        pll: u8,
+        bypassed: bool,
+        fdiv: u8,
+        charge_pump: u8,
+        loop_resistor: u8,
+        lock_count: u16,
+        limit: u16,
+        row: *mut u32,
+        row_len: usize,
+    ) -> u64;
+    pub fn ogr_pll_start_once(
+        pll: u8,
+        bypassed: bool,
+        fdiv: u8,
+        charge_pump: u8,
+        loop_resistor: u8,
+        lock_count: u16,
+        limit: u16,
+        marks: u32,
+        row: *mut u32,
+        row_len: usize,
+    ) -> u64;
+    pub fn ogr_pll_step(word: u32, row: *mut u32, row_len: usize) -> u64;
     pub fn ogr_uart_best(reference: u32, baud: u32, out: *mut u32, out_len: usize) -> u64;
     pub fn ogr_uart_list(
         reference: u32,

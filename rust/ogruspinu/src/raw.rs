@@ -41,6 +41,8 @@ into_words! {
     pll_mul = ogr_pll_mul(multiplier: u32);
     /// FDIV, charge pump, resistor, lock count.
     pll_target = ogr_pll_target(crystal: u32, target: u32);
+    /// The run that twelve words keep, after one step more; `word` is what the host read.
+    pll_step = ogr_pll_step(word: u32);
     /// Clock divisor, baud divider, the error's bits.
     uart_best = ogr_uart_best(reference: u32, baud: u32);
     /// Sets IO clock `which` in an evaluation's words.
@@ -87,7 +89,7 @@ pub fn gem(second: bool, crystal: u32, image: &[u32]) -> u64 {
     unsafe { ffi::ogr_gem(second, crystal, image.as_ptr(), image.len()) }
 }
 
-/// What [`pll_run`] is to do, in its numbers.
+/// What [`pll_run`] and the starts are to do, in their numbers.
 #[derive(Clone, Copy, Debug, PartialEq, Eq)]
 pub struct PllPlan {
     /// 0 ARM, 1 DDR, 2 IO.
@@ -129,6 +131,45 @@ pub fn pll_run(plan: PllPlan, reads: &[u32], log: PllLog<'_>) -> u64 {
             log.numbers.len(),
             log.values.as_mut_ptr(),
             log.values.len(),
+        )
+    }
+}
+
+/// A run in twelve words, after its first step.
+#[inline]
+pub fn pll_start(plan: PllPlan, row: &mut [u32]) -> u64 {
+    // SAFETY: the slice is lent for the call, with its own length.
+    unsafe {
+        ffi::ogr_pll_start(
+            plan.pll,
+            plan.bypassed,
+            plan.fdiv,
+            plan.charge_pump,
+            plan.loop_resistor,
+            plan.lock_count,
+            plan.limit,
+            row.as_mut_ptr(),
+            row.len(),
+        )
+    }
+}
+
+/// The same once only: bit 0 of the marks is ARM's, 1 DDR's, 2 IO's, and the upper half is the marks after an answer.
+#[inline]
+pub fn pll_start_once(plan: PllPlan, marks: u32, row: &mut [u32]) -> u64 {
+    // SAFETY: the slice is lent for the call, with its own length.
+    unsafe {
+        ffi::ogr_pll_start_once(
+            plan.pll,
+            plan.bypassed,
+            plan.fdiv,
+            plan.charge_pump,
+            plan.loop_resistor,
+            plan.lock_count,
+            plan.limit,
+            marks,
+            row.as_mut_ptr(),
+            row.len(),
         )
     }
 }

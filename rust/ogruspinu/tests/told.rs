@@ -2,7 +2,10 @@
 #![cfg(archive)]
 use ogruspinu::Refusal;
 use ogruspinu::clocks::{Clocks, CpuClockRatio};
-use ogruspinu::pll::{Access, BootPllConfig, End, PllConfig, PllType, configure_pll_unchecked};
+use ogruspinu::pll::{
+    Access, BootPllConfig, End, PllConfig, PllMarks, PllSequence, PllType, Request, configure_pll,
+    configure_pll_unchecked, run_pll_unchecked,
+};
 use ogruspinu::time::Hertz;
 
 #[test]
@@ -83,7 +86,7 @@ fn a_record_has_its_other_clocks() {
 #[test]
 fn a_sequence_ends_in_every_way() {
     let run = |config, limit, reads: &[u32]| {
-        configure_pll_unchecked(PllType::Io, BootPllConfig::Bypassed, config, limit, reads)
+        run_pll_unchecked(PllType::Io, BootPllConfig::Bypassed, config, limit, reads)
     };
     let config = PllConfig::new(13).expect("it is in the table");
     let locked = run(config, 1, &[0, 0, 0b1000, 0, 0b100, 0x10]);
@@ -109,4 +112,69 @@ fn a_sequence_ends_in_every_way() {
         (refused.end, refused.log.len()),
         (Err(Refusal::BadField), 0)
     );
+}
+
+/// Does what a run asks for, with these words to be read in order, and gives the accesses up to its end.
+fn stepped(run: &mut PllSequence, reads: &[u32]) -> Vec<Access> {
+    let mut reads = reads.iter();
+    let mut log = Vec::new();
+    while let Ok(request) = run.request() {
+        let handed = match request {
+            Request::Read { word } => {
+                let value = *reads.next().expect("there are words enough");
+                log.push(Access::Read { word, value });
+                value
+            }
+            Request::Write { word, value } => {
+                log.push(Access::Write { word, value });
+                !value
+            }
+            Request::Locked => break,
+        };
+        let _ = run.step(handed);
+    }
+    log
+}
+
+#[test]
+fn a_run_by_steps_is_the_run_at_once() {
+    let config = PllConfig::new(66).expect("it is in the table");
+    let reads = [u32::MAX, 0, 7, 0x1A008, 0b110, 0b011, 0b100, 0x10];
+    for pll in [PllType::Arm, PllType::Ddr, PllType::Io] {
+        for boot in [BootPllConfig::Enabled, BootPllConfig::Bypassed] {
+            for limit in 1..4 {
+                let whole = run_pll_unchecked(pll, boot, config, limit, &reads);
+                let run = configure_pll_unchecked(pll, boot, config, limit);
+                let mut run = run.expect("limit and setting are fine");
+                assert_eq!(stepped(&mut run, &reads), whole.log);
+                let end = run.request();
+                assert_eq!(end, whole.end.map(|_| Request::Locked));
+                assert_eq!((run.step(u32::MAX), run.step(0)), (end, end));
+            }
+        }
+    }
+}
+
+#[test]
+fn a_mark_is_set_by_an_answer_alone() {
+    let mut marks = PllMarks::default();
+    let mut start = |pll, config, limit| {
+        let run = configure_pll(pll, BootPllConfig::Enabled, config, limit, &mut marks);
+        (run.map(|_| ()), marks)
+    };
+    let (config, wide) = (
+        PllConfig::new_raw(13, 2, 6, 750),
+        PllConfig::new_raw(13, 16, 6, 750),
+    );
+    let none = PllMarks::default();
+    assert_eq!(start(PllType::Arm, wide, 0), (Err(Refusal::BadLimit), none));
+    assert_eq!(start(PllType::Arm, wide, 1), (Err(Refusal::BadField), none));
+    let arm = PllMarks { arm: true, ..none };
+    assert_eq!(start(PllType::Arm, config, 1), (Ok(()), arm));
+    assert_eq!(start(PllType::Arm, config, 1), (Err(Refusal::Already), arm));
+    assert_eq!(start(PllType::Arm, wide, 1), (Err(Refusal::BadField), arm));
+    let both = PllMarks { io: true, ..arm };
+    assert_eq!(start(PllType::Io, config, 1), (Ok(()), both));
+    let all = PllMarks { ddr: true, ..both };
+    assert_eq!(start(PllType::Ddr, config, 1), (Ok(()), all));
 }

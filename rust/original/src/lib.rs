@@ -32,6 +32,6 @@ pub use evaluation::{
     CLOCK_NUMBERS, EMIO, clocks, cpu_init, ddr_init, evaluate, gem, update, updated,
 };
 pub use pll::{
-    Pll, Refused, Setting, fields, mul_setting, new_device, run, run_in_place, start,
+    Pll, Refused, Setting, fields, marks, mul_setting, new_device, run, run_in_place, start,
     target_setting,
 };

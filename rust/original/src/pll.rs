@@ -4,6 +4,7 @@ use crate::clocks::pll::{self, PllConfig, PllConfigCtorError};
 use crate::time::Hertz;
 use arbitrary_int::{u4, u7, u10};
 use device::{Access, WORDS};
+use std::sync::OnceLock;
 
 /// FDIV, charge pump, resistor and lock count.
 pub type Setting = [u32; 4];
@@ -78,6 +79,30 @@ pub fn start(pll: Pll, bypassed: bool, setting: Setting, reads: &[u32]) -> (Vec<
 /// Forgets on this thread which PLLs were started.
 pub fn new_device() {
     device::clear_marks();
+}
+
+/// Which PLLs are marked as started on this thread: bit 0 for ARM, 1 for DDR, 2 for IO.
+pub fn marks() -> u32 {
+    let set = device::marks();
+    let bit = |(bit, address)| u32::from(set.contains(address)) << bit;
+    mark_addresses().iter().enumerate().map(bit).sum()
+}
+
+/// The original keeps its marks private, and a mark's address is its name: so each is learned from a start of its PLL, on a
+/// thread whose device nobody else uses.
+fn mark_addresses() -> &'static [usize; 3] {
+    static ADDRESSES: OnceLock<[usize; 3]> = OnceLock::new();
+    let learned = |pll| {
+        new_device();
+        start(pll, false, [0; 4], &[]);
+        device::marks()[0]
+    };
+    ADDRESSES.get_or_init(|| {
+        let all = move || [Pll::Arm, Pll::Ddr, Pll::Io].map(learned);
+        std::thread::spawn(all)
+            .join()
+            .expect("a start marks its PLL")
+    })
 }
 
 fn raw([fdiv, charge_pump, resistor, lock_count]: Setting) -> PllConfig {

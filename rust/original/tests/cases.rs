@@ -145,6 +145,8 @@ fn a_start_is_once_only() {
         (start(Pll::Io), start(Pll::Io), start(Pll::Arm)),
         (12, 0, 12)
     );
+    assert_eq!(original::marks(), 0b101);
     original::new_device();
-    assert_eq!(start(Pll::Io), 12);
+    assert_eq!((original::marks(), start(Pll::Io)), (0, 12));
+    assert_eq!((start(Pll::Ddr), original::marks()), (12, 0b110));
 }

@@ -2,6 +2,7 @@
 mod clocks;
 mod divisors;
 mod pll;
+mod starts;
 mod uart;
 
 use crate::request::{Request, Subject};
@@ -41,7 +42,7 @@ impl Generator {
             Subject::CpuInit => clocks::CPU_INIT,
             Subject::DdrInit => clocks::DDR_INIT,
             Subject::PllSeq => pll::SEQUENCE,
-            Subject::Starts => pll::STARTS,
+            Subject::Starts => starts::STARTS,
         };
         Self { subject, sources }
     }

@@ -1,4 +1,4 @@
-//! Requests for PLL settings, the configuration sequence and once-only starts.
+//! Requests for PLL settings and the configuration sequence.
 use super::{Numbers, Sources, around, grid};
 use crate::rng::Rng;
 
@@ -11,7 +11,6 @@ pub const MUL: Sources = Sources(
 );
 pub const TARGET: Sources = Sources(target_edges, || grid([0..=6, 0..=420]), target_random);
 pub const SEQUENCE: Sources = Sources(sequence_edges, sequence_small, sequence_random);
-pub const STARTS: Sources = Sources(starts_edges, starts_small, starts_random);
 
 /// A multiplier in range, cut to eight bits or less, must not pass for itself.
 fn mul_edges() -> Vec<Numbers> {
@@ -42,11 +41,11 @@ fn target_random(rng: &Rng) -> Numbers {
     vec![crystal, target]
 }
 
-const WIDEST: [u32; 4] = [127, 15, 15, 1_023];
+pub const WIDEST: [u32; 4] = [127, 15, 15, 1_023];
 /// How many values the types have in which the fields are passed: three bytes and 16 bits.
-const HELD: [u32; 4] = [256, 256, 256, 65_536];
+pub const HELD: [u32; 4] = [256, 256, 256, 65_536];
 
-fn sequence(pll: u32, bypassed: u32, setting: [u32; 4], limit: u32, reads: &[u32]) -> Numbers {
+pub fn sequence(pll: u32, bypassed: u32, setting: [u32; 4], limit: u32, reads: &[u32]) -> Numbers {
     let head = [pll, bypassed].into_iter().chain(setting).chain([limit]);
     head.chain(reads.iter().copied()).collect()
 }
@@ -121,34 +120,4 @@ fn sequence_random(rng: &Rng) -> Numbers {
         _ => (clear + rng.below(3)).max(1),
     };
     sequence(pll, rng.below(2), setting, limit, &reads)
-}
-
-/// Twice each, and mixed with every kind of refused start in between.
-fn starts_edges() -> Vec<Numbers> {
-    let mut all = Vec::new();
-    for pll in 0..3 {
-        for between in 0..32 {
-            all.push(vec![pll, between, pll, between]);
-            all.push(vec![between, pll, pll | 4, pll]);
-        }
-    }
-    all
-}
-
-fn starts_small() -> Vec<Numbers> {
-    let codes = [0, 1, 2, 4, 5, 6];
-    let named = |numbers: Numbers| numbers.iter().map(|&i| codes[i as usize]).collect();
-    grid([0..=5, 0..=5, 0..=5, 0..=5])
-        .into_iter()
-        .map(named)
-        .collect()
-}
-
-fn starts_random(rng: &Rng) -> Numbers {
-    let length = rng.within(1, 8);
-    let start = |_| match rng.below(16) {
-        0 => rng.below(32),
-        _ => rng.below(8),
-    };
-    (0..length).map(start).collect()
 }

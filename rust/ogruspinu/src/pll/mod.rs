@@ -1,10 +1,18 @@
 //! PLL settings, and the sequence of register accesses that brings one into effect.
+mod run;
 mod sequence;
+mod start;
 
 use crate::raw;
 use crate::refusal::{Refusal, words_or};
 use crate::time::Hertz;
-pub use sequence::{Access, BootPllConfig, End, PllType, Run, configure_pll_unchecked};
+pub use run::{Access, End, Run, run_pll_unchecked};
+pub use sequence::{BootPllConfig, PllSequence, PllType, Request};
+pub use start::{
+    PllMarks, configure_arm_pll, configure_arm_pll_unchecked, configure_ddr_pll,
+    configure_ddr_pll_unchecked, configure_io_pll, configure_io_pll_unchecked, configure_pll,
+    configure_pll_unchecked,
+};
 
 /// The smallest multiplier.
 pub const PLL_MUL_MIN: u32 = 13;

@@ -1,12 +1,10 @@
-//! The sequence that sets a PLL up and waits for its lock, over words that were read or will be.
+//! The sequence that sets a PLL up and waits for its lock, one register access a step.
 use super::PllConfig;
-use crate::raw::{self, PllLog, PllPlan};
+use crate::raw::{self, PllPlan};
 use crate::refusal::{Refusal, told};
 
-/// Writes of a sequence that comes to its end; every other access is a read.
-const WRITES: usize = 7;
-/// How the library tells that another word was to be read and there is none.
-const STARVED: u32 = u32::MAX;
+/// Words that keep a run: nine of its state, then what the host is to do, the image's word, the value.
+const ROW: usize = 12;
 
 /// Which PLL; the number is also that of its control word and of its lock bit.
 #[derive(Clone, Copy, Debug, PartialEq, Eq)]
@@ -23,56 +21,95 @@ pub enum BootPllConfig {
     Bypassed,
 }
 
-/// One access to a word of the image.
+/// What the host is to do for a run.
 #[derive(Clone, Copy, Debug, PartialEq, Eq)]
-pub enum Access {
-    Read { word: u32, value: u32 },
+pub enum Request {
+    /// To read a word of the image, and hand it to the next step.
+    Read { word: u32 },
+    /// To write a word of the image; what the next step is handed does not matter.
     Write { word: u32, value: u32 },
-}
-
-/// How a run ended.
-#[derive(Clone, Copy, Debug, PartialEq, Eq)]
-pub enum End {
-    /// The lock was seen, and the PLL is in use.
+    /// Nothing more: the lock was seen, and the PLL is in use.
     Locked,
-    /// Another word was to be read, and there was none.
-    Starved,
 }
 
-/// A run of the sequence.
-#[derive(Clone, Debug, PartialEq, Eq)]
-pub struct Run {
-    /// Every access made; those before [`Refusal::LockTimeout`] stand.
-    pub log: Vec<Access>,
-    pub end: Result<End, Refusal>,
-}
-
-/// Runs the whole sequence over the words that the registers give when read, in order. At most `limit` polls may show
-/// the lock bit clear. Nothing is marked as started. Refusals: [`Refusal::BadLimit`], then [`Refusal::BadField`];
-/// [`Refusal::LockTimeout`].
+/// A run of the sequence: the host has the registers, and the run their order and what is written to them. One begins with
+/// [`configure_pll`](super::configure_pll) and its sisters.
 ///
 /// ```
 /// use ogruspinu::{Refusal, pll::*};
 ///
-/// let config = PllConfig::new(40)?;
-/// let reads = [0x1A008, 0x177EA0, 0x28008, 0x28018, 0b110, 0b111, 0x28018];
-/// let run = configure_pll_unchecked(PllType::Arm, BootPllConfig::Enabled, config, 2, &reads);
-/// assert_eq!((run.end, run.log.len()), (Ok(End::Locked), 13));
-/// assert_eq!(run.log[1], Access::Write { word: 0, value: 0x28008 });
-/// assert_eq!(run.log[3], Access::Write { word: 4, value: 0xFA220 });
-/// assert_eq!(run.log[12], Access::Write { word: 0, value: 0x28008 });
-/// let run = configure_pll_unchecked(PllType::Arm, BootPllConfig::Enabled, config, 1, &reads);
-/// assert_eq!((run.end, run.log.len()), (Err(Refusal::LockTimeout), 10));
+/// // Registers in which the ARM PLL's lock, bit 0 of the status in word 3, shows at once.
+/// let mut registers = [0; 50];
+/// (registers[0], registers[3]) = (0x1A008, 0b001);
+/// let mut run = configure_arm_pll_unchecked(BootPllConfig::Enabled, PllConfig::new(40)?, 100)?;
+/// loop {
+///     let read = match run.request()? {
+///         Request::Read { word } => registers[word as usize],
+///         Request::Write { word, value } => {
+///             registers[word as usize] = value;
+///             0
+///         }
+///         Request::Locked => break,
+///     };
+///     run.step(read)?;
+/// }
+/// assert_eq!((registers[0], registers[4]), (0x28008, 0xFA220));
 /// # Ok::<(), Refusal>(())
 /// ```
-pub fn configure_pll_unchecked(
-    pll: PllType,
-    boot: BootPllConfig,
-    config: PllConfig,
-    limit: u16,
-    reads: &[u32],
-) -> Run {
-    let plan = PllPlan {
+#[derive(Clone, Copy, Debug, PartialEq, Eq)]
+pub struct PllSequence {
+    row: [u32; ROW],
+}
+
+impl PllSequence {
+    /// Begins a run by one of the library's starts; gives what the start tells above its answer, too.
+    pub(super) fn begin(start: impl FnOnce(&mut [u32]) -> u64) -> Result<(Self, u32), Refusal> {
+        let mut row = [0; ROW];
+        let above = told(start(&mut row))?;
+        Ok((Self { row }, above))
+    }
+
+    /// What the host is to do now. Refusal: [`Refusal::LockTimeout`] once no poll is left.
+    ///
+    /// ```
+    /// use ogruspinu::{Refusal, pll::*};
+    ///
+    /// let run = configure_io_pll_unchecked(BootPllConfig::Enabled, PllConfig::new(30)?, 100)?;
+    /// assert_eq!(run.request(), Ok(Request::Read { word: 2 }));
+    /// # Ok::<(), Refusal>(())
+    /// ```
+    #[inline]
+    pub fn request(&self) -> Result<Request, Refusal> {
+        let [.., kind, word, value] = self.row;
+        match kind {
+            0 => Ok(Request::Read { word }),
+            1 => Ok(Request::Write { word, value }),
+            2 => Ok(Request::Locked),
+            _ => Err(Refusal::LockTimeout),
+        }
+    }
+
+    /// Takes the word that the host read, and gives what it is to do next. After a write the word is ignored, and after the
+    /// end the same end comes again. Refusal: [`Refusal::LockTimeout`]; the accesses made stand.
+    ///
+    /// ```
+    /// use ogruspinu::{Refusal, pll::*};
+    ///
+    /// let mut run = configure_arm_pll_unchecked(BootPllConfig::Enabled, PllConfig::new(40)?, 100)?;
+    /// assert_eq!(run.step(0x1A008), Ok(Request::Write { word: 0, value: 0x28008 }));
+    /// assert_eq!(run.step(0), Ok(Request::Read { word: 4 }));
+    /// # Ok::<(), Refusal>(())
+    /// ```
+    #[inline]
+    pub fn step(&mut self, word: u32) -> Result<Request, Refusal> {
+        told(raw::pll_step(word, &mut self.row))?;
+        self.request()
+    }
+}
+
+/// What is asked of the library, in its numbers.
+pub(super) fn plan(pll: PllType, boot: BootPllConfig, config: PllConfig, limit: u16) -> PllPlan {
+    PllPlan {
         pll: pll as u8,
         bypassed: boot == BootPllConfig::Bypassed,
         fdiv: config.fdiv,
@@ -80,36 +117,5 @@ pub fn configure_pll_unchecked(
         loop_resistor: config.loop_resistor,
         lock_count: config.lock_count,
         limit,
-    };
-    let most = reads.len() + WRITES;
-    let [mut kinds, mut numbers, mut values] = [0; 3].map(|blank| vec![blank; most]);
-    let log = PllLog {
-        kinds: &mut kinds,
-        numbers: &mut numbers,
-        values: &mut values,
-    };
-    let (end, accesses) = ended(raw::pll_run(plan, reads, log));
-    let entry = |i| access(kinds[i], numbers[i], values[i]);
-    let log = (0..accesses).map(entry).collect();
-    Run { log, end }
-}
-
-/// How it ended, and how many accesses there are.
-fn ended(result: u64) -> (Result<End, Refusal>, usize) {
-    let (number, accesses) = raw::halves(result);
-    match number {
-        STARVED => (Ok(End::Starved), accesses as usize),
-        11 => (Err(Refusal::LockTimeout), accesses as usize),
-        _ => match told(result) {
-            Ok(accesses) => (Ok(End::Locked), accesses as usize),
-            Err(why) => (Err(why), 0),
-        },
-    }
-}
-
-fn access(kind: u32, word: u32, value: u32) -> Access {
-    match kind {
-        0 => Access::Read { word, value },
-        _ => Access::Write { word, value },
     }
 }

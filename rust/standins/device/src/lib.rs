@@ -158,6 +158,11 @@ pub fn swap_mark(address: usize, value: bool) -> bool {
     })
 }
 
+/// The addresses of the marks that are set.
+pub fn marks() -> Vec<usize> {
+    MARKS.with_borrow(Vec::clone)
+}
+
 /// A device just switched on: no mark is set.
 pub fn clear_marks() {
     MARKS.with_borrow_mut(Vec::clear);
