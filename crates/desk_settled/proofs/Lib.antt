@@ -1,2 +1,4 @@
-pub mod Words
+pub mod Images
 pub mod Numbers
+pub mod Replies
+pub mod Words
