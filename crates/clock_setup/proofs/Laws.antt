@@ -21,7 +21,7 @@ pub set-up : (pll : ℕ) (ratio : CpuClockRatio) (divisor : ℕ) {r : CpuClockRa
     CpuRight pll r divisor (answered (cpu-clocks pll ratio (pll / divisor)))
 set-up pll ratio divisor e p q = rw e (cpu.clocks p q)
 
-cpu-same : {pll divisor : ℕ} {ratio : CpuClockRatio} {a b : Told ArmClocks} → CpuRight pll ratio divisor a → CpuRight pll ratio divisor b → a ≡ b
+pub cpu-same : {pll divisor : ℕ} {ratio : CpuClockRatio} {a b : Told ArmClocks} → CpuRight pll ratio divisor a → CpuRight pll ratio divisor b → a ≡ b
 cpu-same (cpu.divisor-zero z) (cpu.divisor-zero y) = refl
 cpu-same (cpu.divisor-zero z) (cpu.bad-field w) = absurd (omega arith)
 cpu-same (cpu.divisor-zero z) (cpu.clocks p q) = absurd (omega arith)
@@ -39,7 +39,7 @@ no-zero z p q = ⊎-elim (λ e. omega arith) (λ e. omega arith) z
 no-wide : {a b : ℕ} → (63 < a) ⊎ (63 < b) → a ≤ 63 → b ≤ 63 → ⊥
 no-wide w p q = ⊎-elim (λ e. omega arith) (λ e. omega arith) w
 
-ddr-same : {reference d₃ d₂ : ℕ} {a b : Told DdrClocks} → DdrRight reference d₃ d₂ a → DdrRight reference d₃ d₂ b → a ≡ b
+pub ddr-same : {reference d₃ d₂ : ℕ} {a b : Told DdrClocks} → DdrRight reference d₃ d₂ a → DdrRight reference d₃ d₂ b → a ≡ b
 ddr-same (ddr.divisor-zero z) (ddr.divisor-zero y) = refl
 ddr-same (ddr.divisor-zero z) (ddr.bad-field p q w) = absurd (no-zero z p q)
 ddr-same (ddr.divisor-zero z) (ddr.clocks p p′ q q′) = absurd (no-zero z p q)

@@ -1,4 +1,9 @@
+pub mod Calls
+pub mod Following
+pub mod Gem
+pub mod I2c
 pub mod Images
 pub mod Numbers
 pub mod Replies
+pub mod Sequence
 pub mod Words
