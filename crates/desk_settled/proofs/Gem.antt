@@ -2,7 +2,7 @@
 use mathlib.Core.Path.{_≡_, sym, _∙_, subst}
 use mathlib.Core.List.{List}
 use Prim.Native.Nat.{ℕ}
-use Rattle.refusals.specs.Told.{Told, answered, refused}
+use Rattle.refusals.specs.Told.{Told}
 use Rattle.registers.specs.Words.{word}
 use Rattle.clocks.specs.declared.Clocks.{Clocks}
 use Rattle.gem.specs.Gem.{Right, outputs-in}

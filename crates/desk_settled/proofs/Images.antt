@@ -8,8 +8,8 @@ use Rattle.words.specs.declared.read.Hex.{Hex}
 use Rattle.words.specs.declared.read.Hex.the-variants as Hex
 use Rattle.words.proofs.RoundTrip.{one-hex}
 use Rattle.desk_words.specs.Numbers.{all, Numbers}
-use Rattle.desk_answers.specs.Answers.{complaint, spoken}
-use Rattle.desk_image.specs.Image.{RegistersParsed, image, before, Registers, Asked, Given}
+use Rattle.desk_answers.specs.Answers.{spoken}
+use Rattle.desk_image.specs.Image.{RegistersParsed, before, Registers, Asked, Given}
 use Rattle.desk_image.specs.Reply.{ImageReply}
 use Rattle.desk_settled.proofs.Numbers.{one-reading}
 

@@ -1,8 +1,11 @@
+pub mod Answers
 pub mod Calls
 pub mod Following
 pub mod Gem
 pub mod I2c
 pub mod Images
+pub mod Lines
+pub mod Naming
 pub mod Numbers
 pub mod Replies
 pub mod Sequence

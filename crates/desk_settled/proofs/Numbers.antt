@@ -1,10 +1,10 @@
 -- A request's numbers have one reading. Assumes nothing.
 use mathlib.Core.Path.{_≡_, refl, sym, ap, ap₂, _∙_}
 use mathlib.Core.List.{List, [], _∷_}
-use Prim.Native.Nat.{ℕ, suc, _+_}
+use Prim.Native.Nat.{ℕ, _+_}
 use native.Mathlib.Omega.{arith}
 use lib.ListN.{length}
-use Rattle.desk_words.specs.Numbers.{FieldParsed, value, fault, Parsed, all, bad, before, Numbers, Only}
+use Rattle.desk_words.specs.Numbers.{value, fault, Parsed, all, bad, before, Numbers, Only}
 use Rattle.desk_words.specs.declared.numbers.Fault.{Fault}
 use Rattle.desk_words.specs.declared.numbers.Fault.the-variants as Fault
 use Rattle.desk_settled.proofs.Words.{one-field}

@@ -1,10 +1,10 @@
 -- A request has one reply where the call that it asks for has one right answer. Assumes nothing.
 use mathlib.Core.Path.{_≡_, refl, ap, subst}
-use mathlib.Core.List.{List, []}
+use mathlib.Core.List.{List}
 use Prim.Native.Nat.{ℕ, _≤_}
 use lib.ListN.{getD}
 use Rattle.refusals.specs.Told.{Told}
-use Rattle.desk_words.specs.Numbers.{Parsed, all, bad}
+use Rattle.desk_words.specs.Numbers.{bad}
 use Rattle.desk_words.specs.declared.numbers.Fault.{Fault}
 use Rattle.desk_words.specs.declared.numbers.Asked.the-variants as Asked
 use Rattle.desk_words.proofs.Reading.{only-within}
