@@ -1,17 +1,18 @@
 // Every clock of a register image, the GEM clocks, and the pure parts of the CPU and DDR set-up.
 use hand_clocks::image::hand_clocks;
 use hand_clocks::image::hand_gem;
-use hand_clocks::setup::hand_cpu_init;
-use hand_clocks::setup::hand_ddr_init;
-use hand_clocks::update::hand_io_update;
+use hand_setup::setup::hand_cpu_init;
+use hand_setup::setup::hand_ddr_init;
+use hand_setup::update::hand_io_update;
 ghost use mathlib.Core.Path.{_≡_};
 ghost use Rattle.handing.specs.Handed.{Handed, Numbered};
 ghost use Rattle.evaluation.specs.Evaluated.{evaluated};
 ghost use Rattle.clock_setup.specs.Cpu.{CpuRight};
 ghost use Rattle.clock_setup.specs.Ddr.{DdrRight};
 ghost use Rattle.hand_clocks.specs.GemClock.{GemRight};
-ghost use Rattle.hand_clocks.specs.Update.{IoUpdated};
-ghost use Rattle.hand_clocks.specs.Words.{clockWords, cpuWords, ddrWords, ratioOf};
+ghost use Rattle.hand_setup.specs.Update.{IoUpdated};
+ghost use Rattle.hand_clocks.specs.Words.{clockWords};
+ghost use Rattle.hand_setup.specs.Words.{cpuWords, ddrWords, ratioOf};
 
 // Twenty-six words, in the order of include/ogruspinu.h; the last is 1 where EMIO brings the trace clock.
 #[no_mangle]

@@ -1,6 +1,6 @@
--- One number and one row can be handed back by an update, and one number by a GEM clock. Assumes nothing.
+-- One number can be handed back by a GEM clock. Assumes nothing.
 use Prim.Native.Nat.{ℕ}
-use mathlib.Core.Path.{_≡_, refl, sym, subst, _∙_}
+use mathlib.Core.Path.{_≡_, sym, subst, _∙_}
 use mathlib.Core.Bool.{Bool}
 use mathlib.Core.List.{List}
 use native.Mathlib.Omega.{arith}
@@ -10,18 +10,6 @@ use Rattle.clocks.specs.declared.Clocks.{Clocks}
 use Rattle.gem.specs.Gem.{Right, outputs-in}
 use Rattle.gem.proofs.Laws.{same}
 use Rattle.hand_clocks.specs.GemClock.{GemRight, gemWord, gemModule}
-use Rattle.hand_clocks.specs.Update.{IoUpdated}
-
-pub unique-update : {which hertz r q : ℕ} {before a b : List ℕ} → IoUpdated which hertz before r a → IoUpdated which hertz before q b → (r ≡ q) × (a ≡ b)
-unique-update (IoUpdated.short h) (IoUpdated.short g) = (refl, refl)
-unique-update (IoUpdated.short h) (IoUpdated.no-such-clock g w) = absurd (omega arith)
-unique-update (IoUpdated.short h) (IoUpdated.sets g w) = absurd (omega arith)
-unique-update (IoUpdated.no-such-clock h v) (IoUpdated.short g) = absurd (omega arith)
-unique-update (IoUpdated.no-such-clock h v) (IoUpdated.no-such-clock g w) = (refl, refl)
-unique-update (IoUpdated.no-such-clock h v) (IoUpdated.sets g w) = absurd (omega arith)
-unique-update (IoUpdated.sets h v) (IoUpdated.short g) = absurd (omega arith)
-unique-update (IoUpdated.sets h v) (IoUpdated.no-such-clock g w) = absurd (omega arith)
-unique-update (IoUpdated.sets h v) (IoUpdated.sets g w) = (refl, refl)
 
 apart : {A : Type 0} {n : ℕ} {carried : List ℕ} {c : Clocks} → _≡_ {A = Told Clocks} (refused n carried) (answered c) → A
 apart e = absurd (let z : _≡_ {A = ℕ} 0 1 = cc in omega arith)

@@ -1,3 +1,2 @@
 pub mod GemClock
-pub mod Update
 pub mod Words

@@ -1,15 +1,12 @@
 -- The clocks as words, in the order in which include/ogruspinu.h and the desk name them.
 use Prim.Native.Nat.{ℕ}
-use mathlib.Core.Bool.{Bool, true, false}
 use mathlib.Core.List.{List, [], _∷_}
 use Rattle.refusals.specs.Number.{BAD-IMAGE, DIVISOR-ZERO, OVERFLOW}
 use Rattle.handing.specs.Handed.{code}
 use Rattle.sources.specs.declared.TraceClk.{TraceClk}
 use Rattle.sources.specs.declared.TraceClk.the-variants.{Hertz, Emio}
-use Rattle.clocks.specs.declared.arm.ArmClocks.{ArmClocks}
 use Rattle.clocks.specs.declared.arm.CpuClockRatio.{CpuClockRatio}
 use Rattle.clocks.specs.declared.arm.CpuClockRatio.the-variants.{FourToTwoToOne, SixToTwoToOne}
-use Rattle.clocks.specs.declared.ddr.DdrClocks.{DdrClocks}
 use Rattle.clocks.specs.declared.Clocks.{Clocks}
 use Rattle.clocks.specs.Module.{module-number}
 use Rattle.gem.specs.declared.GemRead.{GemRead}
@@ -49,15 +46,3 @@ errorCode (Overflow id) = code OVERFLOW (module-number id ∷ [])
 abbrev pub gemCode : GemRead → ℕ
 gemCode (gem.Hertz hertz) = code 0 (hertz ∷ [])
 gemCode (gem.DivisorZero id) = code DIVISOR-ZERO (module-number id ∷ [])
-
--- 1x, 2x, 3x2x, 6x4x
-abbrev pub cpuWords : ArmClocks → List ℕ
-cpuWords c = c .«cpu_1x_clk» ∷ c .«cpu_2x_clk» ∷ c .«cpu_3x2x_clk» ∷ c .«cpu_6x4x_clk» ∷ []
-
--- 3x, 2x
-abbrev pub ddrWords : DdrClocks → List ℕ
-ddrWords c = c .«ddr_3x_clk» ∷ c .«ddr_2x_clk» ∷ []
-
-abbrev pub ratioOf : Bool → CpuClockRatio
-ratioOf true = SixToTwoToOne
-ratioOf false = FourToTwoToOne

@@ -1,11 +1,11 @@
--- `hand_clocks::setup::hand_ddr_init` hands back what the set-up tells. Assumes nothing.
+-- `hand_setup::setup::hand_ddr_init` hands back what the set-up tells. Assumes nothing.
 use native.Mathlib.Omega.{arith}
 use mathlib.Core.Path.{ap}
 use Rattle.handing.proofs.Handing.{no-row, refuses, answers}
 use Rattle.clock_setup.specs.Ddr.{told-ddr}
 use borrow.Author.Needs.{needs}
-use Rattle.hand_clocks.proofs.setup.hand_ddr_init.Statement.{statement}
-use Rattle.hand_clocks.proofs.setup.hand_ddr_init.Tie as tie
+use Rattle.hand_setup.proofs.setup.hand_ddr_init.Statement.{statement}
+use Rattle.hand_setup.proofs.setup.hand_ddr_init.Tie as tie
 
 no-room-requires : tie.Need-no-room-requires
 no-room-requires c κs = search needs

@@ -1,9 +1,9 @@
--- `hand_clocks::update::hand_io_update` sets one word, or refuses. Assumes nothing.
+-- `hand_setup::update::hand_io_update` sets one word, or refuses. Assumes nothing.
 use native.Mathlib.Omega.{arith}
-use Rattle.hand_clocks.specs.Update.{short, no-such-clock, sets}
+use Rattle.hand_setup.specs.Update.{short, no-such-clock, sets}
 use borrow.Author.Needs.{needs}
-use Rattle.hand_clocks.proofs.update.hand_io_update.Statement.{statement}
-use Rattle.hand_clocks.proofs.update.hand_io_update.Tie as tie
+use Rattle.hand_setup.proofs.update.hand_io_update.Statement.{statement}
+use Rattle.hand_setup.proofs.update.hand_io_update.Tie as tie
 
 no-room-requires : tie.Need-no-room-requires
 no-room-requires c κs = search needs

@@ -11,7 +11,7 @@ ghost use mathlib.Core.Path.{_≡_};
 ghost use Rattle.handing.specs.Handed.{Handed};
 ghost use Rattle.clock_setup.specs.Cpu.{CpuRight};
 ghost use Rattle.clock_setup.specs.Ddr.{DdrRight};
-ghost use Rattle.hand_clocks.specs.Words.{cpuWords, ddrWords, ratioOf};
+ghost use Rattle.hand_setup.specs.Words.{cpuWords, ddrWords, ratioOf};
 
 fn ratio_of(six: bool) -> CpuClockRatio
     ensures { λ r. ⌜ r ≡ ratioOf six ⌝ }

@@ -1,6 +1,6 @@
 // One IO clock set anew in an evaluation's words.
 use handing::no_room;
-ghost use Rattle.hand_clocks.specs.Update.{IoUpdated};
+ghost use Rattle.hand_setup.specs.Update.{IoUpdated};
 
 // Clock 0 is smc, and then qspi, sdio, uart, spi, can and, 6, pcap. Any other number names no IO clock that can be set.
 pub fn hand_io_update(which: u32, hertz: u32, clocks: &mut [u32]) -> u64
