@@ -1,2 +1,1 @@
-pub mod I2c
 pub mod Ttc

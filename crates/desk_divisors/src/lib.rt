@@ -1,10 +1,7 @@
-// The requests for divisors: `two-stage`, `i2c`, `i2c-speed` and `ttc`. Each function is given the line and where the word after
-// the request's name begins, and writes the answer; the caller has seen that there is room for the longest.
-mod i2c_request;
+// The requests for divisors: `two-stage` and `ttc`. Each function is given the line and where the word after the request's name
+// begins, and writes the answer; the caller has seen that there is room for the longest.
 mod ttc_request;
 mod two_stage_request;
 
-pub use i2c_request::answer_i2c;
-pub use i2c_request::answer_i2c_speed;
 pub use ttc_request::answer_ttc;
 pub use two_stage_request::answer_two_stage;

@@ -7,7 +7,8 @@ use Rattle.words.specs.Words.{words}
 use Rattle.desk_words.specs.Names.{fault, Name}
 use Rattle.desk_words.specs.declared.numbers.Fault.{Fault}
 use Rattle.desk_answers.specs.Answers.{complaint}
-use Rattle.desk_divisors.specs.Requests.{TwoStageReply, I2cReply, SpeedReply, TtcReply}
+use Rattle.desk_divisors.specs.Requests.{TwoStageReply, TtcReply}
+use Rattle.desk_i2c.specs.Requests.{I2cReply, SpeedReply}
 use Rattle.desk_pll.specs.Requests.{TargetReply, MulReply}
 use Rattle.desk_uart.specs.Requests.{UartReply, ListReply}
 use Rattle.desk_sequence.specs.Requests.{SequenceReply}

@@ -6,7 +6,8 @@ use lib.Dec.{lit<}
 use lib.ListN.{length, getD}
 use Rattle.desk_words.specs.Names.{NameParsed, name, fault, Name}
 use Rattle.desk_answers.specs.Answers.{complaint}
-use Rattle.desk_divisors.specs.Requests.{TwoStageReply, I2cReply, SpeedReply, TtcReply}
+use Rattle.desk_divisors.specs.Requests.{TwoStageReply, TtcReply}
+use Rattle.desk_i2c.specs.Requests.{I2cReply, SpeedReply}
 use Rattle.desk_pll.specs.Requests.{TargetReply, MulReply}
 use Rattle.desk_uart.specs.Requests.{UartReply, ListReply}
 use Rattle.desk_sequence.specs.Requests.{SequenceReply}

@@ -9,7 +9,8 @@ use Rattle.ttc.proofs.Laws as ttc
 use Rattle.pll_settings.proofs.Unique as settings
 use Rattle.uart_best.proofs.Laws as uart
 use Rattle.clock_setup.proofs.Laws as setup
-use Rattle.desk_divisors.specs.Requests.{TwoStageReply, SpeedReply, TtcReply}
+use Rattle.desk_divisors.specs.Requests.{TwoStageReply, TtcReply}
+use Rattle.desk_i2c.specs.Requests.{SpeedReply}
 use Rattle.desk_pll.specs.Requests.{TargetReply, MulReply}
 use Rattle.desk_uart.specs.Requests.{UartReply, ListReply}
 use Rattle.desk_uart.proofs.Listing as listing

@@ -12,7 +12,7 @@ use Rattle.desk_words.specs.Numbers.{Parsed, all, bad, Numbers}
 use Rattle.desk_words.specs.declared.numbers.Fault.the-variants as Fault
 use Rattle.desk_answers.specs.Answers.{complaint, spoken}
 use Rattle.desk_answers.specs.Reply.{U32}
-use Rattle.desk_divisors.specs.Requests.{speeds, speedOf, showConfig, I2cReply}
+use Rattle.desk_i2c.specs.Requests.{speeds, speedOf, showConfig, I2cReply}
 use Rattle.desk_settled.proofs.Words.{one-name}
 use Rattle.desk_settled.proofs.Numbers.{one-reading}
 use Rattle.desk_settled.proofs.Following.{Follows, one-text}

@@ -24,7 +24,7 @@ use Rattle.desk_words.proofs.Reading.{fields-as}
 use Rattle.desk_answers.specs.Answers.{Said, complaint, spoken}
 use Rattle.desk_answers.specs.Reply.{U32, Says}
 use Rattle.desk_answers.proofs.Replying.{says}
-use Rattle.desk_divisors.specs.Requests.{showConfig, speeds, speedOf, I2cReply}
+use Rattle.desk_i2c.specs.Requests.{showConfig, speeds, speedOf, I2cReply}
 
 pub other-speed : (i : ℕ) → (i ≡ 0 → ⊥) → HighSpeed400KHz ≡ speedOf i
 other-speed zero h = absurd (h refl)

@@ -1,4 +1,5 @@
-// `i2c REF normal` or `fast`, and `i2c-speed REF A B`.
+// The requests about the I2C bus: `i2c REF normal` or `fast`, and `i2c-speed REF A B`. As in desk_divisors, each function is given where the
+// word after the request's name begins, and its caller has seen that there is room for the longest answer.
 use desk_answers::put_decimals;
 use desk_answers::put_fault;
 use desk_answers::put_refusal;
@@ -21,7 +22,7 @@ ghost use Rattle.words.specs.Words.{wordsFrom};
 ghost use Rattle.i2c.specs.Divisors.{told};
 ghost use Rattle.desk_answers.specs.Answers.{Said, spoken};
 ghost use Rattle.desk_answers.specs.Reply.{ROOM, Says};
-ghost use Rattle.desk_divisors.specs.Requests.{showConfig, speedOf, I2cReply, SpeedReply};
+ghost use Rattle.desk_i2c.specs.Requests.{showConfig, speedOf, I2cReply, SpeedReply};
 
 pub fn answer_i2c(line: &[u8], from: usize, out: &mut [u8], at: usize) -> usize
     requires { ⌜ at + ROOM ≤ length (now out) ⌝ }

@@ -1,12 +1,12 @@
--- `desk_divisors::i2c_request::tell_divisors` meets its contract.
+-- `desk_i2c::tell_divisors` meets its contract.
 use borrow.Author.Needs.{needs}
 use mathlib.Core.Path.{ap}
 use lib.Dec.{lit≤}
 use Rattle.i2c.specs.Divisors.{told}
 use Rattle.desk_answers.proofs.Replying.{told-as}
-use Rattle.desk_divisors.specs.Requests.{showConfig}
-use Rattle.desk_divisors.proofs.i2c_request.tell_divisors.Statement.{statement}
-use Rattle.desk_divisors.proofs.i2c_request.tell_divisors.Tie as tie
+use Rattle.desk_i2c.specs.Requests.{showConfig}
+use Rattle.desk_i2c.proofs.tell_divisors.Statement.{statement}
+use Rattle.desk_i2c.proofs.tell_divisors.Tie as tie
 
 enum-known-answer : tie.Need-enum-known-answer
 enum-known-answer c = search needs

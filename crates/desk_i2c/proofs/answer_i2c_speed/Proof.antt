@@ -1,4 +1,4 @@
--- `desk_divisors::i2c_request::answer_i2c_speed` meets its contract.
+-- `desk_i2c::answer_i2c_speed` meets its contract.
 use borrow.Author.Needs.{needs}
 use mathlib.Core.Path.{ap}
 use lib.Dec.{lit≤}
@@ -6,8 +6,8 @@ use native.Mathlib.Omega.{arith}
 use Rattle.refusals.specs.Told.{answered}
 use Rattle.desk_words.proofs.Reading.{only-within}
 use Rattle.desk_answers.proofs.Replying.{within, faulted, replied}
-use Rattle.desk_divisors.proofs.i2c_request.answer_i2c_speed.Statement.{statement}
-use Rattle.desk_divisors.proofs.i2c_request.answer_i2c_speed.Tie as tie
+use Rattle.desk_i2c.proofs.answer_i2c_speed.Statement.{statement}
+use Rattle.desk_i2c.proofs.answer_i2c_speed.Tie as tie
 
 slice-aggregate-only-numbers : tie.Need-slice-aggregate-only-numbers
 slice-aggregate-only-numbers c = search needs

@@ -1,8 +1,8 @@
--- `desk_divisors::i2c_request::answer_i2c` meets its contract.
+-- `desk_i2c::answer_i2c` meets its contract.
 use borrow.Author.Needs.{needs}
-use Rattle.desk_divisors.proofs.I2c.{bad-number, bad-speed, one-more, i2c-told}
-use Rattle.desk_divisors.proofs.i2c_request.answer_i2c.Statement.{statement}
-use Rattle.desk_divisors.proofs.i2c_request.answer_i2c.Tie as tie
+use Rattle.desk_i2c.proofs.I2c.{bad-number, bad-speed, one-more, i2c-told}
+use Rattle.desk_i2c.proofs.answer_i2c.Statement.{statement}
+use Rattle.desk_i2c.proofs.answer_i2c.Tie as tie
 
 slice-aggregate-read-numbers : tie.Need-slice-aggregate-read-numbers
 slice-aggregate-read-numbers c = search needs
