@@ -25,7 +25,7 @@ pub enum Due {
     End,
 }
 
-fn pll_ctrl(pll: PllType) -> u32
+pub fn pll_ctrl(pll: PllType) -> u32
     ensures { λ r. ⌜ r ≡ pll-ctrl pll ⌝ }
 {
     match pll {

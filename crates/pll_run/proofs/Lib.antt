@@ -1,6 +1,10 @@
 pub mod Answer
+pub mod Carrying
+pub mod Closing
 pub mod Column
 pub mod Counting
-pub mod Recording
+pub mod Due
+pub mod Parts
+pub mod Stored
 pub mod Turns
 pub mod Unique

@@ -2,6 +2,7 @@
 -- record as it was. A run that does not fit is refused with 9 before anything is written.
 use Prim.Native.Nat.{ℕ, _≤_, _<_}
 use mathlib.Core.Logic.{_⊎_}
+use mathlib.Core.Bool.{Bool, true, false}
 use mathlib.Core.List.{List, [], _∷_, _++_, map}
 use lib.ListN.{length, drop}
 use Rattle.refusals.specs.Told.{Told, answered, refused}
@@ -38,6 +39,11 @@ pub record Room (n : ℕ) (r : Rows) : Type 0 where
 
 abbrev pub Short : ℕ → Rows → Type 0
 Short n r = (length (r .kinds) < n) ⊎ ((length (r .numbers) < n) ⊎ (length (r .values) < n))
+
+-- the same of the rows' lengths, as a test tells it
+abbrev pub Fit : ℕ → ℕ → ℕ → ℕ → Bool → Type 0
+Fit n kinds numbers values true = (n ≤ kinds) × (n ≤ numbers) × (n ≤ values)
+Fit n kinds numbers values false = (kinds < n) ⊎ ((numbers < n) ⊎ (values < n))
 
 abbrev pub ending : Ending → Told Ending
 ending locked = answered locked

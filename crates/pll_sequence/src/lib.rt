@@ -41,7 +41,7 @@ struct Asking {
 }
 
 // Takes in the word that the host read, where a read was asked for last.
-fn received(plan: PllPlan, place: Place, word: u32) -> Place
+pub fn received(plan: PllPlan, place: Place, word: u32) -> Place
     ensures { λ r. ⌜ r ≡ received (sequence plan) place word ⌝ }
 {
     let at = place.at;

@@ -1,10 +1,10 @@
 -- `pll_run::host_step` meets its contract. Assumes nothing.
 use Prim.Native.Nat.{ℕ}
 use mathlib.Core.List.{List}
-use borrow.Author.Needs.{needs}
 use Rattle.pll_sequence.specs.Step.{Steps}
 use Rattle.pll_run.specs.declared.Host.{Host}
 use Rattle.pll_run.proofs.Turns.{starves, does-read, does-write, locks, times-out}
+use borrow.Author.Needs.{needs}
 use Rattle.pll_run.proofs.host_step.Statement.{statement}
 use Rattle.pll_run.proofs.host_step.Tie as tie
 
@@ -27,17 +27,23 @@ enum-known-request c = search needs
 returns : tie.Need-returns
 returns c = starves (words (c .before .before .before .before)) (host (c .before .before .before .before)) (stepped (c .before .before .before .before)) (c .before .before .request .given .1) (c .if1 .taken)
 
-mul-value : tie.Need-mul-value
-mul-value c = search needs
+mul-did : tie.Need-mul-did
+mul-did c = search needs
 
-shared-slice-read-value : tie.Need-shared-slice-read-value
-shared-slice-read-value c = search needs
+shared-slice-read-did : tie.Need-shared-slice-read-did
+shared-slice-read-did c = search needs
 
-add-used : tie.Need-add-used
-add-used c = search needs
+add-did : tie.Need-add-did
+add-did c = search needs
+
+did-requires : tie.Need-did-requires
+did-requires c κs = search needs
 
 enum-known-request-2 : tie.Need-enum-known-request-2
 enum-known-request-2 c = search needs
+
+did-requires-2 : tie.Need-did-requires-2
+did-requires-2 c κs = search needs
 
 enum-told : tie.Need-enum-told
 enum-told c = search needs
@@ -46,10 +52,10 @@ enum-told-2 : tie.Need-enum-told-2
 enum-told-2 c = search needs
 
 returns-2 : tie.Need-returns-2
-returns-2 c = does-read (words (c .before .before .before .before .before)) (host (c .before .before .before .before .before)) (stepped (c .before .before .before .before .before)) (c .before .before .before .request .given .1) (c .before .if1 .left)
+returns-2 c = rw (c .did .ensures) (does-read (words (c .before .before .before .before .before .before)) (host (c .before .before .before .before .before .before)) (stepped (c .before .before .before .before .before .before)) (c .before .before .before .before .request .given .1) (c .before .before .if1 .left))
 
 returns-3 : tie.Need-returns-3
-returns-3 c = does-write (words (c .before .before .before)) (host (c .before .before .before)) (stepped (c .before .before .before)) (c .before .request2 .given .1)
+returns-3 c = rw (c .did2 .ensures) (does-write (words (c .before .before .before .before)) (host (c .before .before .before .before)) (stepped (c .before .before .before .before)) (c .before .before .request2 .given .1))
 
 returns-4 : tie.Need-returns-4
 returns-4 c = locks (words (c .before .before)) (host (c .before .before)) (stepped (c .before .before)) (c .enum-told .given .1)
@@ -64,10 +70,12 @@ host-step-spec =
     step-requires
     enum-known-request
     returns
-    mul-value
-    shared-slice-read-value
-    add-used
+    mul-did
+    shared-slice-read-did
+    add-did
+    did-requires
     enum-known-request-2
+    did-requires-2
     enum-told
     enum-told-2
     returns-2
