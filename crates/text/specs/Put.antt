@@ -3,6 +3,7 @@ use Prim.Native.Nat.{ℕ, _+_, _≤_, _<_}
 use mathlib.Core.Path.{_≡_}
 use mathlib.Core.List.{List, _++_}
 use lib.ListN.{length, take, drop}
+use Rattle.bounds.specs.Within.{Within}
 
 -- the text stands from `at` up to `next`, within the buffer, and every other byte is as it was
 pub record Wrote (text before : List ℕ) (at : ℕ) (after : List ℕ) (next : ℕ) : Type 0 where
@@ -10,7 +11,11 @@ pub record Wrote (text before : List ℕ) (at : ℕ) (after : List ℕ) (next : 
   pub inside : next ≤ length before
   pub after-is : after ≡ take at before ++ text ++ drop (at + length text) before
 
--- where it fits it is written; else nothing is, and the position answered is past the end
-pub record Put (text before : List ℕ) (at : ℕ) (after : List ℕ) (next : ℕ) : Type 0 where
-  pub fits : at + length text ≤ length before → Wrote text before at after next
-  pub full : length before < at + length text → (next ≡ length before + 1) × (after ≡ before)
+-- A writer that wants `most` bytes of room before it starts. Without them it writes nothing, and the position answered is past the end.
+abbrev pub InRoom : ℕ → (List ℕ → ℕ → List ℕ → ℕ → Type 0) → List ℕ → ℕ → List ℕ → ℕ → Type 0
+InRoom most Writes before at after next =
+    Within (at + most) (length before) (Writes before at after next) ((next ≡ length before + 1) × (after ≡ before))
+
+-- a text wants room for itself
+abbrev pub Put : List ℕ → List ℕ → ℕ → List ℕ → ℕ → Type 0
+Put text = InRoom (length text) (Wrote text)

@@ -8,3 +8,4 @@ pub use print::put_decimal;
 pub use print::put_hex;
 pub use put::put_byte;
 pub use put::put_bytes;
+pub use put::room;

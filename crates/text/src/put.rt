@@ -3,11 +3,18 @@
 // row of writers needs one test, at its end or before it starts.
 ghost use mathlib.Core.List.{[], _∷_};
 ghost use Rattle.text.specs.Put.{Put};
-ghost use Prim.Native.Nat.{_+_, _≤_};
+ghost use Prim.Native.Nat.{_+_, _-_, _≤_};
 ghost use mathlib.Core.Path.{_≡_};
 ghost use mathlib.Core.Bool.{Bool, true, false};
 ghost use lib.ListN.{length};
 ghost use lib.Seq.{paste};
+
+// How many bytes of room a buffer of a length has from a position on: none past its end.
+pub fn room(length: usize, at: usize) -> usize
+    ensures { λ r. ⌜ r ≡ length - at ⌝ }
+{
+    if length < at { 0 } else { length - at }
+}
 
 pub fn put_byte(byte: u8, out: &mut [u8], at: usize) -> usize
     ensures { λ r. ⌜ Put (byte ∷ []) (now (out .entry)) at (now (out .exit)) r ⌝ }

@@ -12,7 +12,7 @@ use lib.Dec.{ltb, eqb, leb·suc-suc}
 use lib.ListN.{length, getD, take, drop, length-drop}
 use lib.Seq.{getD-drop, drop-drop}
 use Rattle.words.specs.declared.split.Placed.the-variants as Placed
-use Rattle.words.specs.Words.{before, words, wordsFrom, Until, part, Place}
+use Rattle.words.specs.Words.{before, words, wordsFrom, Until, Ends, part, Place}
 
 pub within : (line : List ℕ) (from : ℕ) → from ≤ length line → wordsFrom line from ≡ words (drop from line)
 unfolding wordsFrom
@@ -71,7 +71,7 @@ pub stop : {line : List ℕ} {from byte at : ℕ} → Passed line from byte at �
 stop p t = record { begun = p .begun; inside = p .inside; none-before = p .none-before; there = t }
 
 -- up to a space is a word
-pub a-cut : {line : List ℕ} {from end : ℕ} → Until line from 32 end → wordsFrom line from ≡ part line from end ∷ wordsFrom line (end + 1)
+a-cut : {line : List ℕ} {from end : ℕ} → Until line from 32 end → wordsFrom line from ≡ part line from end ∷ wordsFrom line (end + 1)
 a-cut {line} {from} {end} u =
     within line from (omega (arith, u .begun, u .inside))
     ∙ cut (end - from) (drop from line) (omega (arith, length-drop from line, u .inside)) (λ k h e. u .none-before k h (sym (getD-drop from line k 0) ∙ e)) (λ h. getD-drop from line (end - from) 0 ∙ ap (λ (j : ℕ). getD line j 0) here ∙ u .there (omega (arith, length-drop from line, u .begun)))
@@ -82,6 +82,9 @@ a-cut {line} {from} {end} u =
 
     next : from + suc (end - from) ≡ end + 1
     next = omega (arith, u .begun)
+
+pub an-end : {line : List ℕ} {from end : ℕ} → Until line from 32 end → Ends line from end
+an-end u = record { begun = u .begun; inside = u .inside; one-word = a-cut u }
 
 -- looking a word up: the first i names are not it, and the others stand from `from` on
 pub record Looked (word line : List ℕ) (i from : ℕ) : Type 0 where

@@ -32,6 +32,12 @@ pub record Until (line : List ℕ) (from byte end : ℕ) : Type 0 where
 abbrev pub part : List ℕ → ℕ → ℕ → List ℕ
 part line from end = take (end - from) (drop from line)
 
+-- the word that begins at `from` ends before `end`, and the next begins one past that
+pub record Ends (line : List ℕ) (from end : ℕ) : Type 0 where
+  pub begun : from ≤ end
+  pub inside : end ≤ length line
+  pub one-word : wordsFrom line from ≡ part line from end ∷ wordsFrom line (end + 1)
+
 -- the first place of a word among names, or that it is none of them
 pub data Place (word : List ℕ) (names : List (List ℕ)) : Placed → Type 0 where
   here : (i : ℕ) → i < length names → getD names i [] ≡ word → ((j : ℕ) → j < i → getD names j [] ≡ word → ⊥) → Place word names (Placed.At i)

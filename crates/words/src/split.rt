@@ -1,16 +1,14 @@
 // The words of a line, one after the other. A position that is the line's length stands before an empty last word; one past
 // it says that there is no word more.
 use check::same;
-ghost use Prim.Native.Nat.{_+_, _≤_};
 ghost use mathlib.Core.Path.{_≡_};
-ghost use mathlib.Core.List.{_∷_};
 ghost use lib.ListN.{length};
-ghost use Rattle.words.specs.Words.{words, wordsFrom, Until, part, Place};
+ghost use Rattle.bounds.specs.Within.{Within};
+ghost use Rattle.words.specs.Words.{words, Until, Ends, Place};
 
-// The first place of a byte from `from` on, or the end. For callers that have not passed the end, hence the requirement.
+// The first place of a byte from `from` on, or the end. Past the end there is nothing to look for: it answers `from`.
 pub fn until(line: &[u8], from: usize, byte: u8) -> usize
-    requires { ⌜ from ≤ length (now line) ⌝ }
-    ensures { λ r. ⌜ Until (now (line .entry)) from byte r ⌝ }
+    ensures { λ r. ⌜ Within from (length (now (line .entry))) (Until (now (line .entry)) from byte r) (r ≡ from) ⌝ }
 {
     let mut at = from;
     while at < line.len() {
@@ -22,10 +20,9 @@ pub fn until(line: &[u8], from: usize, byte: u8) -> usize
     at
 }
 
-// Where the word that begins at `from` ends; the next word begins one past that.
+// Where the word that begins at `from` ends; the next word begins one past that. Past the line's end it answers `from`.
 pub fn word_end(line: &[u8], from: usize) -> usize
-    requires { ⌜ from ≤ length (now line) ⌝ }
-    ensures { λ r. ⌜ (from ≤ r) × (r ≤ length (now (line .entry))) × (wordsFrom (now (line .entry)) from ≡ part (now (line .entry)) from r ∷ wordsFrom (now (line .entry)) (r + 1)) ⌝ }
+    ensures { λ r. ⌜ Within from (length (now (line .entry))) (Ends (now (line .entry)) from r) (r ≡ from) ⌝ }
 {
     until(line, from, 32)
 }

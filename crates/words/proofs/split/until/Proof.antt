@@ -1,25 +1,27 @@
 -- `words::split::until` meets its contract.
 use Prim.Native.Nat.{_-_}
 use native.Mathlib.Omega.{arith}
+use mathlib.Core.Path.{_≡_, refl}
 use lib.ListN.{length}
+use Rattle.bounds.specs.Within.{Within}
 use Rattle.words.proofs.Splitting.{Passed, begin, one-more, stop}
 use Rattle.words.proofs.split.until.Statement.{statement}
 use Rattle.words.proofs.split.until.Tie as tie
 
 abbrev Inv-loop : tie.InvT-loop
-Inv-loop line from byte at₀ at = Passed line from byte at
+Inv-loop line from byte at₀ at = Within from (length line) (Passed line from byte at) (at ≡ from)
 
 abbrev μ-loop : tie.MeasureT-loop
 μ-loop line from byte at₀ at = length line - at
 
 loop-holds : tie.Need-loop-holds Inv-loop μ-loop
-loop-holds c = begin _ _ _ (c .pre)
+loop-holds c = record { fits = λ h. begin _ _ _ h; full = λ _. refl }
 
 shared-slice-read-if1 : tie.Need-shared-slice-read-if1 Inv-loop μ-loop
 shared-slice-read-if1 c = omega arith
 
 returns : tie.Need-returns Inv-loop μ-loop
-returns c = stop (c .before .before .before .loop .inv) (λ _. c .if1 .taken)
+returns c = let inv = c .before .before .before .loop .inv in record { fits = λ h. stop (inv .fits h) (λ _. c .if1 .taken); full = inv .full }
 
 add-at : tie.Need-add-at Inv-loop μ-loop
 add-at c = omega arith
@@ -28,10 +30,12 @@ loop-less : tie.Need-loop-less Inv-loop μ-loop
 loop-less c = omega arith
 
 loop-again : tie.Need-loop-again Inv-loop μ-loop
-loop-again c = one-more (c .before .before .before .loop .inv) (omega arith) (c .if1 .left)
+loop-again c =
+    let inv = c .before .before .before .loop .inv in
+    record { fits = λ h. one-more (inv .fits h) (omega arith) (c .if1 .left); full = λ g. absurd (omega (arith, inv .full g)) }
 
 returns-2 : tie.Need-returns-2 Inv-loop μ-loop
-returns-2 c = stop (c .before .loop .inv) (λ h. absurd (omega arith))
+returns-2 c = let inv = c .before .loop .inv in record { fits = λ h. stop (inv .fits h) (λ g. absurd (omega arith)); full = inv .full }
 
 pub until-spec : {M : Type 1} → statement M
 until-spec =
