@@ -6,6 +6,8 @@ use native.Mathlib.Numerals.{add-one}
 use native.Mathlib.Omega.{arith}
 use lib.ListN.{length, getD, take, drop, set, length-set, drop-of-length-le}
 use lib.Seq.{drop-cons, drop-drop, take-all, take-suc-set, drop-set-lt}
+use native.Mathlib.Decide.{decLt}
+use Rattle.bounds.specs.Within.{Within}
 use Rattle.words.specs.Reading.{Decimal}
 use Rattle.words.specs.declared.read.Number.{Number}
 use Rattle.words.proofs.Splitting.{a-word, past}
@@ -97,6 +99,27 @@ module _ (limits : List ℕ) (words : List (List ℕ)) (line values : List ℕ) 
 
   pub only-these : {next : ℕ} → r ≡ Fields.All next → length line < next → Only limits words (all values [])
   only-these {next} e h = Only.numbers (subst (λ (ws : List (List ℕ)). Numbers limits 2 words (all values ws)) (past line next h) (told-as (Fields.All next) e))
+
+-- words were counted, or there were too many
+abbrev askedOf : Fields → Asked
+askedOf (Fields.All next) = Asked.Numbers
+askedOf (Fields.Bad k f) = Asked.Bad k f
+
+abbrev refusing : Fields → ℕ
+refusing (Fields.All next) = 0
+refusing (Fields.Bad k f) = 1
+
+pub few : {n most : ℕ} {Kept Past : Type 0} {r : Fields} {next : ℕ} → Within n most Kept ((r ≡ Fields.Bad 0 Fault.OneTooMany) × Past) → r ≡ Fields.All next → n ≤ most
+few {n} {most} w e = elim (decLt most n) [
+  | yes l ↦ absurd (let z : _≡_ {A = ℕ} 0 1 = ap refusing (sym e ∙ w .full l .0) in omega arith)
+  | no l ↦ omega arith ]
+
+pub only-refused : {most : ℕ} {limits : List ℕ} {words : List (List ℕ)} (line values : List ℕ) {after : List ℕ} (r : Fields) {k : ℕ} {f : Fault} → Within (2 + length limits) most (Numbers limits 2 words (fields line values r)) ((r ≡ Fields.Bad 0 Fault.OneTooMany) × (after ≡ limits)) → r ≡ Fields.Bad k f → Within (2 + length limits) most (Only limits words (bad k f)) ((Asked.Bad k f ≡ Asked.Bad 0 Fault.OneTooMany) × (after ≡ limits))
+only-refused {limits = limits} {words} line values r w e =
+    record {
+      fits = λ h. only-bad limits words line values r (w .fits h) e;
+      full = λ g. (ap askedOf (sym e ∙ w .full g .0), w .full g .1);
+    }
 
 -- each number is within its limit
 abbrev InLimits : List ℕ → Parsed → Type 0

@@ -14,6 +14,10 @@ use Rattle.desk_words.specs.declared.numbers.Fields.the-variants as Fiel
 use Rattle.desk_words.specs.declared.numbers.Asked.{Asked}
 use Rattle.desk_words.specs.declared.numbers.Asked.the-variants as Asked
 
+-- words are counted so far; a call that might have to count further is refused with a fault of word 0
+abbrev pub LAST-WORD : ℕ
+LAST-WORD = 999
+
 -- one word
 pub data FieldParsed : Type 0 where
   value : ℕ → FieldParsed
