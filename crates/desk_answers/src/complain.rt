@@ -2,15 +2,19 @@
 use desk_words::Fault;
 use text::put_bytes;
 use text::put_decimal;
+use text::room;
 ghost use Prim.Native.Nat.{_+_, _≤_};
 ghost use lib.ListN.{length};
 ghost use Rattle.text.specs.Bytes.{bytes};
+ghost use Rattle.text.specs.Put.{InRoom};
 ghost use Rattle.desk_answers.specs.Answers.{Said, complaint, wrong};
 
 pub fn put_fault(word: u32, fault: Fault, out: &mut [u8], at: usize) -> usize
-    requires { ⌜ at + 100 ≤ length (now out) ⌝ }
-    ensures { λ r. ⌜ Said 100 (complaint word fault) (now (out .entry)) at (now (out .exit)) r ⌝ }
+    ensures { λ r. ⌜ InRoom 100 (Said 100 (complaint word fault)) (now (out .entry)) at (now (out .exit)) r ⌝ }
 {
+    if room(out.len(), at) < 100 {
+        return out.len() + 1;
+    }
     let past = put_bytes(b"bad line: word ", out, at);
     let past = put_decimal(word, out, past);
     put_wrong(fault, out, past)

@@ -1,5 +1,6 @@
-// What the desk writes: numbers, a refusal with what it carries, or which word of a bad line is at fault. The caller has
-// seen that there is room for the longest answer, hence the requirements: a row of writers then needs no test of its own.
+// What the desk writes: numbers, a refusal with what it carries, or which word of a bad line is at fault. Each looks first whether
+// there is room for the longest that it may have to write. Without it nothing is written, and the position answered is past the
+// end, as by the writers of crate text.
 mod complain;
 mod tell;
 

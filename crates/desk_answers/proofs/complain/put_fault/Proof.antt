@@ -1,8 +1,20 @@
 -- `desk_answers::complain::put_fault` meets its contract.
+use native.Mathlib.Omega.{arith}
+use mathlib.Core.Path.{refl}
+use Rattle.bounds.proofs.Bound.{kept, past}
 use borrow.Author.Needs.{needs}
 use Rattle.desk_answers.proofs.Writing.{room-for-wrong, complained}
 use Rattle.desk_answers.proofs.complain.put_fault.Statement.{statement}
 use Rattle.desk_answers.proofs.complain.put_fault.Tie as tie
+
+room-requires : tie.Need-room-requires
+room-requires c κs = search needs
+
+add-result : tie.Need-add-result
+add-result c = search needs
+
+returns : tie.Need-returns
+returns c = past (omega arith) (refl, refl)
 
 slice-aggregate-put-bytes : tie.Need-slice-aggregate-put-bytes
 slice-aggregate-put-bytes c = search needs
@@ -14,21 +26,24 @@ put-decimal-requires : tie.Need-put-decimal-requires
 put-decimal-requires c κs = search needs
 
 put-wrong-requires : tie.Need-put-wrong-requires
-put-wrong-requires c κs = room-for-wrong _ (c .before .before .before .before .before .before .before .before .before .before .before .pre) (c .before .before .before .before .before .before .before .put-bytes .ensures) (c .before .before .before .put-decimal .ensures)
+put-wrong-requires c κs = room-for-wrong _ (omega arith) (c .before .before .before .before .before .before .before .put-bytes .ensures) (c .before .before .before .put-decimal .ensures)
 
 same-length : tie.Need-same-length
 same-length c = search needs
 
-returns : tie.Need-returns
-returns c = complained _ _ (c .before .before .before .before .before .before .before .before .before .before .before .before .before .before .pre) (c .before .before .before .before .before .before .before .before .before .before .put-bytes .ensures) (c .before .before .before .before .before .before .put-decimal .ensures) (c .before .before .put-wrong .ensures)
+returns-2 : tie.Need-returns-2
+returns-2 c = kept (omega arith) (complained _ _ (omega arith) (c .before .before .before .before .before .before .before .before .before .before .put-bytes .ensures) (c .before .before .before .before .before .before .put-decimal .ensures) (c .before .before .put-wrong .ensures))
 
 pub put-fault-spec : {M : Type 1} → statement M
 put-fault-spec =
     tie.close
     (tie.spec
+    room-requires
+    add-result
+    returns
     slice-aggregate-put-bytes
     put-bytes-requires
     put-decimal-requires
     put-wrong-requires
     same-length
-    returns)
+    returns-2)

@@ -1,4 +1,6 @@
 -- `desk_answers::tell::put_decimals` meets its contract.
+use mathlib.Core.Path.{refl}
+use Rattle.bounds.proofs.Bound.{kept, past}
 use borrow.Author.Needs.{needs}
 use denote.Ref.{now}
 use native.Mathlib.Omega.{arith}
@@ -6,8 +8,23 @@ use Rattle.desk_answers.proofs.Writing.{no-numbers, room-after, numbers
 use Rattle.desk_answers.proofs.tell.put_decimals.Statement.{statement}
 use Rattle.desk_answers.proofs.tell.put_decimals.Tie as tie
 
+add-result : tie.Need-add-result
+add-result c = search needs
+
 returns : tie.Need-returns
-returns c = no-numbers (now (c .before .before .before .args .values)) _ _ (c .if1 .taken) (omega arith)
+returns c = past (omega arith) (refl, refl)
+
+room-requires : tie.Need-room-requires
+room-requires c κs = search needs
+
+add-result-2 : tie.Need-add-result-2
+add-result-2 c = search needs
+
+returns-2 : tie.Need-returns-2
+returns-2 c = past (omega arith) (refl, refl)
+
+returns-3 : tie.Need-returns-3
+returns-3 c = kept (omega arith) (no-numbers (now (c .before .before .before .before .before .before .args .values)) _ _ (c .if3 .taken) (omega arith))
 
 shared-slice-read-put-decimal : tie.Need-shared-slice-read-put-decimal
 shared-slice-read-put-decimal c = search needs
@@ -25,19 +42,24 @@ part-put-spaced-end : tie.Need-part-put-spaced-end
 part-put-spaced-end c = search needs
 
 put-spaced-requires : tie.Need-put-spaced-requires
-put-spaced-requires c κs = room-after _ (now (c .before .before .before .before .before .before .before .before .before .before .args .values)) (c .before .before .before .before .put-decimal .ensures) (c .before .before .before .before .before .before .before .before .before .before .pre) (omega arith)
+put-spaced-requires c κs = room-after _ (now (c .before .before .before .before .before .before .before .before .before .before .before .before .before .args .values)) (c .before .before .before .before .put-decimal .ensures) (omega arith) (omega arith)
 
 same-length : tie.Need-same-length
 same-length c = search needs
 
-returns-2 : tie.Need-returns-2
-returns-2 c = numbers (now (c .before .before .before .before .before .before .before .before .before .before .before .before .before .args .values)) (omega arith) (c .before .before .before .before .before .before .before .before .before .before .before .before .before .pre) (c .before .before .before .before .before .before .before .put-decimal .ensures) (c .before .before .put-spaced .ensures)
+returns-4 : tie.Need-returns-4
+returns-4 c = kept (omega arith) (numbers (now (c .before .before .before .before .before .before .before .before .before .before .before .before .before .before .before .before .args .values)) (omega arith) (omega arith) (c .before .before .before .before .before .before .before .put-decimal .ensures) (c .before .before .put-spaced .ensures))
 
 pub put-decimals-spec : {M : Type 1} → statement M
 put-decimals-spec =
     tie.close
     (tie.spec
+    add-result
     returns
+    room-requires
+    add-result-2
+    returns-2
+    returns-3
     shared-slice-read-put-decimal
     put-decimal-requires
     sub-put-spaced
@@ -45,4 +67,4 @@ put-decimals-spec =
     part-put-spaced-end
     put-spaced-requires
     same-length
-    returns-2)
+    returns-4)
