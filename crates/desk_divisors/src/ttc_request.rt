@@ -6,6 +6,7 @@ use desk_words::Asked;
 use desk_words::only_numbers;
 use text::put_bytes;
 use text::put_decimal;
+use text::room;
 use ttc::Interval;
 use ttc::PrescalerReg;
 use ttc::Setting;
@@ -14,14 +15,17 @@ ghost use Prim.Native.Nat.{_+_, _≤_};
 ghost use lib.ListN.{length};
 ghost use Rattle.words.specs.Words.{wordsFrom};
 ghost use Rattle.ttc.specs.Interval.{told};
+ghost use Rattle.text.specs.Put.{InRoom};
 ghost use Rattle.desk_answers.specs.Answers.{Said, spoken};
 ghost use Rattle.desk_answers.specs.Reply.{ROOM, Says};
 ghost use Rattle.desk_divisors.specs.Requests.{showSetting, TtcReply};
 
 pub fn answer_ttc(line: &[u8], from: usize, out: &mut [u8], at: usize) -> usize
-    requires { ⌜ at + ROOM ≤ length (now out) ⌝ }
-    ensures { λ r. ⌜ Says (TtcReply (wordsFrom (now (line .entry)) from)) (now (out .entry)) at (now (out .exit)) r ⌝ }
+    ensures { λ r. ⌜ InRoom ROOM (Says (TtcReply (wordsFrom (now (line .entry)) from))) (now (out .entry)) at (now (out .exit)) r ⌝ }
 {
+    if room(out.len(), at) < 8192 {
+        return out.len() + 1;
+    }
     let mut n = [u32::MAX, u32::MAX];
     match only_numbers(line, from, &mut n) {
         Asked::Bad(word, fault) => put_fault(word, fault, out, at),

@@ -42,7 +42,7 @@ same-length-2 : tie.Need-same-length-2
 same-length-2 c = search needs
 
 returns-2 : tie.Need-returns-2
-returns-2 c = said-value _ (c .before .before .before .before .before .before .prescaler .given .1) (c .before .before .put-decimals .ensures)
+returns-2 c = said-value _ (c .before .before .before .before .before .before .prescaler .given .1) (c .before .before .put-decimals .ensures .fits (omega arith))
 
 pub put-setting-spec : {M : Type 1} → statement M
 put-setting-spec =

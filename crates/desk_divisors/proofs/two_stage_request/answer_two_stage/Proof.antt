@@ -1,8 +1,20 @@
 -- `desk_divisors::two_stage_request::answer_two_stage` meets its contract.
+use native.Mathlib.Omega.{arith}
+use mathlib.Core.Path.{refl}
+use Rattle.bounds.proofs.Bound.{kept, past}
 use borrow.Author.Needs.{needs}
 use Rattle.desk_answers.proofs.Replying.{faulted, replied}
 use Rattle.desk_divisors.proofs.two_stage_request.answer_two_stage.Statement.{statement}
 use Rattle.desk_divisors.proofs.two_stage_request.answer_two_stage.Tie as tie
+
+room-requires : tie.Need-room-requires
+room-requires c κs = search needs
+
+add-result : tie.Need-add-result
+add-result c = search needs
+
+returns : tie.Need-returns
+returns c = past (omega arith) (refl, refl)
 
 slice-aggregate-only-numbers : tie.Need-slice-aggregate-only-numbers
 slice-aggregate-only-numbers c = search needs
@@ -37,19 +49,22 @@ tell-two-stage-requires c κs = search needs
 same-length : tie.Need-same-length
 same-length c = search needs
 
-returns : tie.Need-returns
-returns c = faulted _ _ (c .before .before .before .before .before .before .before .before .only-numbers .ensures) (c .before .before .before .before .before .word .given .1) (c .before .before .put-fault .ensures)
+returns-2 : tie.Need-returns-2
+returns-2 c = kept (omega arith) (faulted _ _ (c .before .before .before .before .before .before .before .before .only-numbers .ensures .fits (omega arith)) (c .before .before .before .before .before .word .given .1) (c .before .before .put-fault .ensures .fits (omega arith)))
 
 same-length-2 : tie.Need-same-length-2
 same-length-2 c = search needs
 
-returns-2 : tie.Need-returns-2
-returns-2 c = replied _ _ (c .before .before .before .before .before .before .before .before .only-numbers .ensures) _ (c .before .before .before .before .before .enum-told .given .1) (c .before .before .before .before .find-two-stage-divisors .ensures) (c .before .before .tell-two-stage .ensures)
+returns-3 : tie.Need-returns-3
+returns-3 c = kept (omega arith) (replied _ _ (c .before .before .before .before .before .before .before .before .only-numbers .ensures .fits (omega arith)) _ (c .before .before .before .before .before .enum-told .given .1) (c .before .before .before .before .find-two-stage-divisors .ensures) (c .before .before .tell-two-stage .ensures))
 
 pub answer-two-stage-spec : {M : Type 1} → statement M
 answer-two-stage-spec =
     tie.close
     (tie.spec
+    room-requires
+    add-result
+    returns
     slice-aggregate-only-numbers
     only-numbers-requires
     enum-known-word
@@ -61,6 +76,6 @@ answer-two-stage-spec =
     find-two-stage-divisors-requires
     tell-two-stage-requires
     same-length
-    returns
+    returns-2
     same-length-2
-    returns-2)
+    returns-3)
