@@ -15,19 +15,23 @@ use i2c::Divisors;
 use i2c::Speed;
 use i2c::calculate_divisors;
 use i2c::calculate_i2c_speed;
+use text::room;
 ghost use Prim.Native.Nat.{_+_, _≤_};
 ghost use mathlib.Core.Path.{_≡_};
 ghost use lib.ListN.{length};
 ghost use Rattle.words.specs.Words.{wordsFrom};
 ghost use Rattle.i2c.specs.Divisors.{told};
+ghost use Rattle.text.specs.Put.{InRoom};
 ghost use Rattle.desk_answers.specs.Answers.{Said, spoken};
 ghost use Rattle.desk_answers.specs.Reply.{ROOM, Says};
 ghost use Rattle.desk_i2c.specs.Requests.{showConfig, speedOf, I2cReply, SpeedReply};
 
 pub fn answer_i2c(line: &[u8], from: usize, out: &mut [u8], at: usize) -> usize
-    requires { ⌜ at + ROOM ≤ length (now out) ⌝ }
-    ensures { λ r. ⌜ Says (I2cReply (wordsFrom (now (line .entry)) from)) (now (out .entry)) at (now (out .exit)) r ⌝ }
+    ensures { λ r. ⌜ InRoom ROOM (Says (I2cReply (wordsFrom (now (line .entry)) from))) (now (out .entry)) at (now (out .exit)) r ⌝ }
 {
+    if room(out.len(), at) < 8192 {
+        return out.len() + 1;
+    }
     let mut n = [u32::MAX];
     match read_numbers(line, from, 2, &mut n) {
         Fields::Bad(word, fault) => put_fault(word, fault, out, at),
@@ -64,9 +68,11 @@ fn tell_divisors(answer: Divisors, out: &mut [u8], at: usize) -> usize
 }
 
 pub fn answer_i2c_speed(line: &[u8], from: usize, out: &mut [u8], at: usize) -> usize
-    requires { ⌜ at + ROOM ≤ length (now out) ⌝ }
-    ensures { λ r. ⌜ Says (SpeedReply (wordsFrom (now (line .entry)) from)) (now (out .entry)) at (now (out .exit)) r ⌝ }
+    ensures { λ r. ⌜ InRoom ROOM (Says (SpeedReply (wordsFrom (now (line .entry)) from))) (now (out .entry)) at (now (out .exit)) r ⌝ }
 {
+    if room(out.len(), at) < 8192 {
+        return out.len() + 1;
+    }
     let mut n = [u32::MAX, 255, 255];
     match only_numbers(line, from, &mut n) {
         Asked::Bad(word, fault) => put_fault(word, fault, out, at),

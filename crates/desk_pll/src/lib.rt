@@ -8,19 +8,23 @@ use desk_words::Asked;
 use desk_words::only_numbers;
 use pll_settings::PllConfig;
 use pll_settings::PllSetting;
+use text::room;
 ghost use Prim.Native.Nat.{_+_, _≤_};
 ghost use lib.ListN.{length};
 ghost use Rattle.words.specs.Words.{wordsFrom};
 ghost use Rattle.pll_settings.specs.Settings.{told};
+ghost use Rattle.text.specs.Put.{InRoom};
 ghost use Rattle.desk_answers.specs.Answers.{Said, spoken};
 ghost use Rattle.desk_answers.specs.Reply.{ROOM, Says};
 ghost use Rattle.desk_pll.specs.Requests.{showPll, TargetReply, MulReply};
 
 // `pll-target CRYSTAL TARGET`.
 pub fn answer_pll_target(line: &[u8], from: usize, out: &mut [u8], at: usize) -> usize
-    requires { ⌜ at + ROOM ≤ length (now out) ⌝ }
-    ensures { λ r. ⌜ Says (TargetReply (wordsFrom (now (line .entry)) from)) (now (out .entry)) at (now (out .exit)) r ⌝ }
+    ensures { λ r. ⌜ InRoom ROOM (Says (TargetReply (wordsFrom (now (line .entry)) from))) (now (out .entry)) at (now (out .exit)) r ⌝ }
 {
+    if room(out.len(), at) < 8192 {
+        return out.len() + 1;
+    }
     let mut n = [u32::MAX, u32::MAX];
     match only_numbers(line, from, &mut n) {
         Asked::Bad(word, fault) => put_fault(word, fault, out, at),
@@ -30,9 +34,11 @@ pub fn answer_pll_target(line: &[u8], from: usize, out: &mut [u8], at: usize) ->
 
 // `pll-mul MUL`.
 pub fn answer_pll_mul(line: &[u8], from: usize, out: &mut [u8], at: usize) -> usize
-    requires { ⌜ at + ROOM ≤ length (now out) ⌝ }
-    ensures { λ r. ⌜ Says (MulReply (wordsFrom (now (line .entry)) from)) (now (out .entry)) at (now (out .exit)) r ⌝ }
+    ensures { λ r. ⌜ InRoom ROOM (Says (MulReply (wordsFrom (now (line .entry)) from))) (now (out .entry)) at (now (out .exit)) r ⌝ }
 {
+    if room(out.len(), at) < 8192 {
+        return out.len() + 1;
+    }
     let mut n = [u32::MAX];
     match only_numbers(line, from, &mut n) {
         Asked::Bad(word, fault) => put_fault(word, fault, out, at),

@@ -11,21 +11,25 @@ use desk_answers::put_refusal;
 use desk_answers::put_refusal_with;
 use desk_words::Asked;
 use desk_words::only_numbers;
+use text::room;
 ghost use Prim.Native.Nat.{_+_, _≤_};
 ghost use mathlib.Core.Path.{_≡_};
 ghost use lib.ListN.{length};
 ghost use Rattle.words.specs.Words.{wordsFrom};
 ghost use Rattle.clock_setup.specs.Cpu.{told-cpu};
 ghost use Rattle.clock_setup.specs.Ddr.{told-ddr};
+ghost use Rattle.text.specs.Put.{InRoom};
 ghost use Rattle.desk_answers.specs.Answers.{Said, spoken};
 ghost use Rattle.desk_answers.specs.Reply.{ROOM, Says};
 ghost use Rattle.desk_setup.specs.Requests.{ratioOf, showCpu, showDdr, CpuReply, DdrReply};
 
 // `cpu-init PLL RATIO DIV`.
 pub fn answer_cpu_init(line: &[u8], from: usize, out: &mut [u8], at: usize) -> usize
-    requires { ⌜ at + ROOM ≤ length (now out) ⌝ }
-    ensures { λ r. ⌜ Says (CpuReply (wordsFrom (now (line .entry)) from)) (now (out .entry)) at (now (out .exit)) r ⌝ }
+    ensures { λ r. ⌜ InRoom ROOM (Says (CpuReply (wordsFrom (now (line .entry)) from))) (now (out .entry)) at (now (out .exit)) r ⌝ }
 {
+    if room(out.len(), at) < 8192 {
+        return out.len() + 1;
+    }
     let mut n = [u32::MAX, 1, u32::MAX];
     match only_numbers(line, from, &mut n) {
         Asked::Bad(word, fault) => put_fault(word, fault, out, at),
@@ -59,9 +63,11 @@ fn tell_cpu(answer: CpuSetup, out: &mut [u8], at: usize) -> usize
 
 // `ddr-init REF DIV3X DIV2X`.
 pub fn answer_ddr_init(line: &[u8], from: usize, out: &mut [u8], at: usize) -> usize
-    requires { ⌜ at + ROOM ≤ length (now out) ⌝ }
-    ensures { λ r. ⌜ Says (DdrReply (wordsFrom (now (line .entry)) from)) (now (out .entry)) at (now (out .exit)) r ⌝ }
+    ensures { λ r. ⌜ InRoom ROOM (Says (DdrReply (wordsFrom (now (line .entry)) from))) (now (out .entry)) at (now (out .exit)) r ⌝ }
 {
+    if room(out.len(), at) < 8192 {
+        return out.len() + 1;
+    }
     let mut n = [u32::MAX, u32::MAX, u32::MAX];
     match only_numbers(line, from, &mut n) {
         Asked::Bad(word, fault) => put_fault(word, fault, out, at),

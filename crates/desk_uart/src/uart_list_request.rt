@@ -1,25 +1,29 @@
 // `uart-list REF BAUD`. The count comes first, so the baud dividers are gone through twice: no record is kept between.
-use crate::pair::put_pair;
+use crate::put_pair;
 use desk_answers::put_fault;
 use desk_words::Asked;
 use desk_words::only_numbers;
 use text::put_byte;
 use text::put_decimal;
+use text::room;
 use uart_candidate::Tried;
 use uart_candidate::viable;
 use uart_list::viable_count;
 ghost use Prim.Native.Nat.{_+_, _≤_};
 ghost use lib.ListN.{length};
 ghost use Rattle.words.specs.Words.{wordsFrom};
+ghost use Rattle.text.specs.Put.{InRoom};
 ghost use Rattle.desk_answers.specs.Answers.{Said};
 ghost use Rattle.desk_answers.specs.Reply.{ROOM, Says};
 ghost use Rattle.desk_uart.specs.Requests.{entries, showList, ListReply};
 ghost use Rattle.desk_uart.specs.Turns.{entry, Prints};
 
 pub fn answer_uart_list(line: &[u8], from: usize, out: &mut [u8], at: usize) -> usize
-    requires { ⌜ at + ROOM ≤ length (now out) ⌝ }
-    ensures { λ r. ⌜ Says (ListReply (wordsFrom (now (line .entry)) from)) (now (out .entry)) at (now (out .exit)) r ⌝ }
+    ensures { λ r. ⌜ InRoom ROOM (Says (ListReply (wordsFrom (now (line .entry)) from))) (now (out .entry)) at (now (out .exit)) r ⌝ }
 {
+    if room(out.len(), at) < 8192 {
+        return out.len() + 1;
+    }
     let mut n = [u32::MAX, u32::MAX];
     match only_numbers(line, from, &mut n) {
         Asked::Bad(word, fault) => put_fault(word, fault, out, at),

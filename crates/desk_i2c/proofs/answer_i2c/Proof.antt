@@ -1,8 +1,20 @@
 -- `desk_i2c::answer_i2c` meets its contract.
+use native.Mathlib.Omega.{arith}
+use mathlib.Core.Path.{refl}
+use Rattle.bounds.proofs.Bound.{kept, past}
 use borrow.Author.Needs.{needs}
 use Rattle.desk_i2c.proofs.I2c.{bad-number, bad-speed, one-more, i2c-told}
 use Rattle.desk_i2c.proofs.answer_i2c.Statement.{statement}
 use Rattle.desk_i2c.proofs.answer_i2c.Tie as tie
+
+room-requires : tie.Need-room-requires
+room-requires c κs = search needs
+
+add-result : tie.Need-add-result
+add-result c = search needs
+
+returns : tie.Need-returns
+returns c = past (omega arith) (refl, refl)
 
 slice-aggregate-read-numbers : tie.Need-slice-aggregate-read-numbers
 slice-aggregate-read-numbers c = search needs
@@ -52,31 +64,34 @@ tell-divisors-requires c κs = search needs
 same-length : tie.Need-same-length
 same-length c = search needs
 
-returns : tie.Need-returns
-returns c = bad-number _ _ _ (c .before .before .before .before .before .before .before .before .read-numbers .ensures) (c .before .before .before .before .before .word .given .1) (c .before .before .put-fault .ensures)
+returns-2 : tie.Need-returns-2
+returns-2 c = kept (omega arith) (bad-number _ _ _ (c .before .before .before .before .before .before .before .before .read-numbers .ensures .fits (omega arith)) (c .before .before .before .before .before .word .given .1) (c .before .before .put-fault .ensures .fits (omega arith)))
 
 same-length-2 : tie.Need-same-length-2
 same-length-2 c = search needs
 
-returns-2 : tie.Need-returns-2
-returns-2 c = bad-speed _ _ _ (c .before .before .before .before .before .before .before .before .before .before .before .before .before .read-numbers .ensures) (c .before .before .before .before .before .before .before .before .before .before .next .given .1) _ (c .before .before .before .before .before .before .before .read-name .ensures) (c .before .before .before .before .before .fault .given .1) (c .before .before .put-fault2 .ensures)
+returns-3 : tie.Need-returns-3
+returns-3 c = kept (omega arith) (bad-speed _ _ _ (c .before .before .before .before .before .before .before .before .before .before .before .before .before .read-numbers .ensures .fits (omega arith)) (c .before .before .before .before .before .before .before .before .before .before .next .given .1) _ (c .before .before .before .before .before .before .before .read-name .ensures) (c .before .before .before .before .before .fault .given .1) (c .before .before .put-fault2 .ensures .fits (omega arith)))
 
 same-length-3 : tie.Need-same-length-3
 same-length-3 c = search needs
 
-returns-3 : tie.Need-returns-3
-returns-3 c = one-more _ _ _ (c .before .before .before .before .before .before .before .before .before .before .before .before .before .before .read-numbers .ensures) (c .before .before .before .before .before .before .before .before .before .before .before .next .given .1) _ (c .before .before .before .before .before .before .before .before .read-name .ensures) (c .before .before .before .before .before .before .i .given .1) (c .before .before .before .before .if1 .taken) (c .before .before .put-fault3 .ensures)
+returns-4 : tie.Need-returns-4
+returns-4 c = kept (omega arith) (one-more _ _ _ (c .before .before .before .before .before .before .before .before .before .before .before .before .before .before .read-numbers .ensures .fits (omega arith)) (c .before .before .before .before .before .before .before .before .before .before .before .next .given .1) _ (c .before .before .before .before .before .before .before .before .read-name .ensures) (c .before .before .before .before .before .before .i .given .1) (c .before .before .before .before .if2 .taken) (c .before .before .put-fault3 .ensures .fits (omega arith)))
 
 same-length-4 : tie.Need-same-length-4
 same-length-4 c = search needs
 
-returns-4 : tie.Need-returns-4
-returns-4 c = i2c-told _ _ _ (c .before .before .before .before .before .before .before .before .before .before .before .before .before .before .before .before .read-numbers .ensures) (c .before .before .before .before .before .before .before .before .before .before .before .before .before .next .given .1) _ (c .before .before .before .before .before .before .before .before .before .before .read-name .ensures) _ _ (c .before .before .before .before .before .before .before .before .i .given .1) (c .before .before .before .before .before .before .if1 .left) (c .before .before .before .before .before .speed .ensures) (c .before .before .before .before .calculate-divisors .ensures) (c .before .before .tell-divisors .ensures)
+returns-5 : tie.Need-returns-5
+returns-5 c = kept (omega arith) (i2c-told _ _ _ (c .before .before .before .before .before .before .before .before .before .before .before .before .before .before .before .before .read-numbers .ensures .fits (omega arith)) (c .before .before .before .before .before .before .before .before .before .before .before .before .before .next .given .1) _ (c .before .before .before .before .before .before .before .before .before .before .read-name .ensures) _ _ (c .before .before .before .before .before .before .before .before .i .given .1) (c .before .before .before .before .before .before .if2 .left) (c .before .before .before .before .before .speed .ensures) (c .before .before .before .before .calculate-divisors .ensures) (c .before .before .tell-divisors .ensures))
 
 pub answer-i2c-spec : {M : Type 1} → statement M
 answer-i2c-spec =
     tie.close
     (tie.spec
+    room-requires
+    add-result
+    returns
     slice-aggregate-read-numbers
     read-numbers-requires
     enum-known-word
@@ -93,10 +108,10 @@ answer-i2c-spec =
     calculate-divisors-requires
     tell-divisors-requires
     same-length
-    returns
-    same-length-2
     returns-2
-    same-length-3
+    same-length-2
     returns-3
+    same-length-3
+    returns-4
     same-length-4
-    returns-4)
+    returns-5)

@@ -1,4 +1,5 @@
 -- `desk_i2c::tell_divisors` meets its contract.
+use native.Mathlib.Omega.{arith}
 use borrow.Author.Needs.{needs}
 use mathlib.Core.Path.{ap}
 use lib.Dec.{lit≤}
@@ -33,13 +34,13 @@ same-length : tie.Need-same-length
 same-length c = search needs
 
 returns : tie.Need-returns
-returns c = told-as showConfig 22 (ap told (c .before .before .before .before .before .before .before .before .answer .given .1)) (lit≤ tt) (c .before .before .put-decimals .ensures)
+returns c = told-as showConfig 22 (ap told (c .before .before .before .before .before .before .before .before .answer .given .1)) (lit≤ tt) (c .before .before .put-decimals .ensures .fits (omega arith))
 
 same-length-2 : tie.Need-same-length-2
 same-length-2 c = search needs
 
 returns-2 : tie.Need-returns-2
-returns-2 c = told-as showConfig 20 (ap told (c .before .before .before .before .enum-told .given .1)) (lit≤ tt) (c .before .before .put-refusal .ensures)
+returns-2 c = told-as showConfig 20 (ap told (c .before .before .before .before .enum-told .given .1)) (lit≤ tt) (c .before .before .put-refusal .ensures .fits (omega arith))
 
 pub tell-divisors-spec : {M : Type 1} → statement M
 tell-divisors-spec =

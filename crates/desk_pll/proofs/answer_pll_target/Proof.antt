@@ -1,8 +1,20 @@
 -- `desk_pll::answer_pll_target` meets its contract.
+use native.Mathlib.Omega.{arith}
+use mathlib.Core.Path.{refl}
+use Rattle.bounds.proofs.Bound.{kept, past}
 use borrow.Author.Needs.{needs}
 use Rattle.desk_answers.proofs.Replying.{faulted, replied}
 use Rattle.desk_pll.proofs.answer_pll_target.Statement.{statement}
 use Rattle.desk_pll.proofs.answer_pll_target.Tie as tie
+
+room-requires : tie.Need-room-requires
+room-requires c κs = search needs
+
+add-result : tie.Need-add-result
+add-result c = search needs
+
+returns : tie.Need-returns
+returns c = past (omega arith) (refl, refl)
 
 slice-aggregate-only-numbers : tie.Need-slice-aggregate-only-numbers
 slice-aggregate-only-numbers c = search needs
@@ -34,19 +46,22 @@ tell-setting-requires c κs = search needs
 same-length : tie.Need-same-length
 same-length c = search needs
 
-returns : tie.Need-returns
-returns c = faulted _ _ (c .before .before .before .before .before .before .before .before .only-numbers .ensures) (c .before .before .before .before .before .word .given .1) (c .before .before .put-fault .ensures)
+returns-2 : tie.Need-returns-2
+returns-2 c = kept (omega arith) (faulted _ _ (c .before .before .before .before .before .before .before .before .only-numbers .ensures .fits (omega arith)) (c .before .before .before .before .before .word .given .1) (c .before .before .put-fault .ensures .fits (omega arith)))
 
 same-length-2 : tie.Need-same-length-2
 same-length-2 c = search needs
 
-returns-2 : tie.Need-returns-2
-returns-2 c = replied _ _ (c .before .before .before .before .before .before .before .before .only-numbers .ensures) _ (c .before .before .before .before .before .enum-told .given .1) (c .before .before .before .before .new-from-target-clock .ensures) (c .before .before .tell-setting .ensures)
+returns-3 : tie.Need-returns-3
+returns-3 c = kept (omega arith) (replied _ _ (c .before .before .before .before .before .before .before .before .only-numbers .ensures .fits (omega arith)) _ (c .before .before .before .before .before .enum-told .given .1) (c .before .before .before .before .new-from-target-clock .ensures) (c .before .before .tell-setting .ensures))
 
 pub answer-pll-target-spec : {M : Type 1} → statement M
 answer-pll-target-spec =
     tie.close
     (tie.spec
+    room-requires
+    add-result
+    returns
     slice-aggregate-only-numbers
     only-numbers-requires
     enum-known-word
@@ -57,6 +72,6 @@ answer-pll-target-spec =
     new-from-target-clock-requires
     tell-setting-requires
     same-length
-    returns
+    returns-2
     same-length-2
-    returns-2)
+    returns-3)

@@ -1,4 +1,5 @@
 -- `desk_pll::tell_setting` meets its contract.
+use native.Mathlib.Omega.{arith}
 use borrow.Author.Needs.{needs}
 use mathlib.Core.Path.{ap}
 use lib.Dec.{lit≤}
@@ -45,19 +46,19 @@ same-length : tie.Need-same-length
 same-length c = search needs
 
 returns : tie.Need-returns
-returns c = told-as showPll 44 (ap told (c .before .before .before .before .before .before .before .before .before .before .answer .given .1)) (lit≤ tt) (c .before .before .put-decimals .ensures)
+returns c = told-as showPll 44 (ap told (c .before .before .before .before .before .before .before .before .before .before .answer .given .1)) (lit≤ tt) (c .before .before .put-decimals .ensures .fits (omega arith))
 
 same-length-2 : tie.Need-same-length-2
 same-length-2 c = search needs
 
 returns-2 : tie.Need-returns-2
-returns-2 c = told-as showPll 20 (ap told (c .before .before .before .before .enum-told .given .1)) (lit≤ tt) (c .before .before .put-refusal .ensures)
+returns-2 c = told-as showPll 20 (ap told (c .before .before .before .before .enum-told .given .1)) (lit≤ tt) (c .before .before .put-refusal .ensures .fits (omega arith))
 
 same-length-3 : tie.Need-same-length-3
 same-length-3 c = search needs
 
 returns-3 : tie.Need-returns-3
-returns-3 c = told-as showPll 40 (ap told (c .before .before .before .before .before .answer2 .given .1)) (lit≤ tt) (c .before .before .put-refusal-with .ensures)
+returns-3 c = told-as showPll 40 (ap told (c .before .before .before .before .before .answer2 .given .1)) (lit≤ tt) (c .before .before .put-refusal-with .ensures .fits (omega arith))
 
 pub tell-setting-spec : {M : Type 1} → statement M
 tell-setting-spec =

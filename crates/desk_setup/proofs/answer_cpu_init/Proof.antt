@@ -1,9 +1,21 @@
 -- `desk_setup::answer_cpu_init` meets its contract.
+use native.Mathlib.Omega.{arith}
+use mathlib.Core.Path.{refl}
+use Rattle.bounds.proofs.Bound.{kept, past}
 use borrow.Author.Needs.{needs}
 use Rattle.desk_answers.proofs.Replying.{faulted}
 use Rattle.desk_setup.proofs.Setup.{cpu-replied}
 use Rattle.desk_setup.proofs.answer_cpu_init.Statement.{statement}
 use Rattle.desk_setup.proofs.answer_cpu_init.Tie as tie
+
+room-requires : tie.Need-room-requires
+room-requires c κs = search needs
+
+add-result : tie.Need-add-result
+add-result c = search needs
+
+returns : tie.Need-returns
+returns c = past (omega arith) (refl, refl)
 
 slice-aggregate-only-numbers : tie.Need-slice-aggregate-only-numbers
 slice-aggregate-only-numbers c = search needs
@@ -41,19 +53,22 @@ tell-cpu-requires c κs = search needs
 same-length : tie.Need-same-length
 same-length c = search needs
 
-returns : tie.Need-returns
-returns c = faulted _ _ (c .before .before .before .before .before .before .before .before .only-numbers .ensures) (c .before .before .before .before .before .word .given .1) (c .before .before .put-fault .ensures)
+returns-2 : tie.Need-returns-2
+returns-2 c = kept (omega arith) (faulted _ _ (c .before .before .before .before .before .before .before .before .only-numbers .ensures .fits (omega arith)) (c .before .before .before .before .before .word .given .1) (c .before .before .put-fault .ensures .fits (omega arith)))
 
 same-length-2 : tie.Need-same-length-2
 same-length-2 c = search needs
 
-returns-2 : tie.Need-returns-2
-returns-2 c = cpu-replied _ _ (c .before .before .before .before .before .before .before .before .before .only-numbers .ensures) _ _ (c .before .before .before .before .before .before .enum-told .given .1) (c .before .before .before .before .before .ratio .ensures) (c .before .before .before .before .new-with-cpu-clock-init .ensures) (c .before .before .tell-cpu .ensures)
+returns-3 : tie.Need-returns-3
+returns-3 c = kept (omega arith) (cpu-replied _ _ (c .before .before .before .before .before .before .before .before .before .only-numbers .ensures .fits (omega arith)) _ _ (c .before .before .before .before .before .before .enum-told .given .1) (c .before .before .before .before .before .ratio .ensures) (c .before .before .before .before .new-with-cpu-clock-init .ensures) (c .before .before .tell-cpu .ensures))
 
 pub answer-cpu-init-spec : {M : Type 1} → statement M
 answer-cpu-init-spec =
     tie.close
     (tie.spec
+    room-requires
+    add-result
+    returns
     slice-aggregate-only-numbers
     only-numbers-requires
     enum-known-word
@@ -66,6 +81,6 @@ answer-cpu-init-spec =
     new-with-cpu-clock-init-requires
     tell-cpu-requires
     same-length
-    returns
+    returns-2
     same-length-2
-    returns-2)
+    returns-3)

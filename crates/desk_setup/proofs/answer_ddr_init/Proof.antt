@@ -1,8 +1,20 @@
 -- `desk_setup::answer_ddr_init` meets its contract.
+use native.Mathlib.Omega.{arith}
+use mathlib.Core.Path.{refl}
+use Rattle.bounds.proofs.Bound.{kept, past}
 use borrow.Author.Needs.{needs}
 use Rattle.desk_answers.proofs.Replying.{faulted, replied}
 use Rattle.desk_setup.proofs.answer_ddr_init.Statement.{statement}
 use Rattle.desk_setup.proofs.answer_ddr_init.Tie as tie
+
+room-requires : tie.Need-room-requires
+room-requires c κs = search needs
+
+add-result : tie.Need-add-result
+add-result c = search needs
+
+returns : tie.Need-returns
+returns c = past (omega arith) (refl, refl)
 
 slice-aggregate-only-numbers : tie.Need-slice-aggregate-only-numbers
 slice-aggregate-only-numbers c = search needs
@@ -37,19 +49,22 @@ tell-ddr-requires c κs = search needs
 same-length : tie.Need-same-length
 same-length c = search needs
 
-returns : tie.Need-returns
-returns c = faulted _ _ (c .before .before .before .before .before .before .before .before .only-numbers .ensures) (c .before .before .before .before .before .word .given .1) (c .before .before .put-fault .ensures)
+returns-2 : tie.Need-returns-2
+returns-2 c = kept (omega arith) (faulted _ _ (c .before .before .before .before .before .before .before .before .only-numbers .ensures .fits (omega arith)) (c .before .before .before .before .before .word .given .1) (c .before .before .put-fault .ensures .fits (omega arith)))
 
 same-length-2 : tie.Need-same-length-2
 same-length-2 c = search needs
 
-returns-2 : tie.Need-returns-2
-returns-2 c = replied _ _ (c .before .before .before .before .before .before .before .before .only-numbers .ensures) _ (c .before .before .before .before .before .enum-told .given .1) (c .before .before .before .before .new-with-2x-3x-init .ensures) (c .before .before .tell-ddr .ensures)
+returns-3 : tie.Need-returns-3
+returns-3 c = kept (omega arith) (replied _ _ (c .before .before .before .before .before .before .before .before .only-numbers .ensures .fits (omega arith)) _ (c .before .before .before .before .before .enum-told .given .1) (c .before .before .before .before .new-with-2x-3x-init .ensures) (c .before .before .tell-ddr .ensures))
 
 pub answer-ddr-init-spec : {M : Type 1} → statement M
 answer-ddr-init-spec =
     tie.close
     (tie.spec
+    room-requires
+    add-result
+    returns
     slice-aggregate-only-numbers
     only-numbers-requires
     enum-known-word
@@ -61,6 +76,6 @@ answer-ddr-init-spec =
     new-with-2x-3x-init-requires
     tell-ddr-requires
     same-length
-    returns
+    returns-2
     same-length-2
-    returns-2)
+    returns-3)

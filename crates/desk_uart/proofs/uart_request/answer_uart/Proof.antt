@@ -1,8 +1,20 @@
 -- `desk_uart::uart_request::answer_uart` meets its contract.
+use native.Mathlib.Omega.{arith}
+use mathlib.Core.Path.{refl}
+use Rattle.bounds.proofs.Bound.{kept, past}
 use borrow.Author.Needs.{needs}
 use Rattle.desk_answers.proofs.Replying.{faulted, replied}
 use Rattle.desk_uart.proofs.uart_request.answer_uart.Statement.{statement}
 use Rattle.desk_uart.proofs.uart_request.answer_uart.Tie as tie
+
+room-requires : tie.Need-room-requires
+room-requires c κs = search needs
+
+add-result : tie.Need-add-result
+add-result c = search needs
+
+returns : tie.Need-returns
+returns c = past (omega arith) (refl, refl)
 
 slice-aggregate-only-numbers : tie.Need-slice-aggregate-only-numbers
 slice-aggregate-only-numbers c = search needs
@@ -34,19 +46,22 @@ tell-best-requires c κs = search needs
 same-length : tie.Need-same-length
 same-length c = search needs
 
-returns : tie.Need-returns
-returns c = faulted _ _ (c .before .before .before .before .before .before .before .before .only-numbers .ensures) (c .before .before .before .before .before .word .given .1) (c .before .before .put-fault .ensures)
+returns-2 : tie.Need-returns-2
+returns-2 c = kept (omega arith) (faulted _ _ (c .before .before .before .before .before .before .before .before .only-numbers .ensures .fits (omega arith)) (c .before .before .before .before .before .word .given .1) (c .before .before .put-fault .ensures .fits (omega arith)))
 
 same-length-2 : tie.Need-same-length-2
 same-length-2 c = search needs
 
-returns-2 : tie.Need-returns-2
-returns-2 c = replied _ _ (c .before .before .before .before .before .before .before .before .only-numbers .ensures) _ (c .before .before .before .before .before .enum-told .given .1) (c .before .before .before .before .best-baud-divisors .ensures) (c .before .before .tell-best .ensures)
+returns-3 : tie.Need-returns-3
+returns-3 c = kept (omega arith) (replied _ _ (c .before .before .before .before .before .before .before .before .only-numbers .ensures .fits (omega arith)) _ (c .before .before .before .before .before .enum-told .given .1) (c .before .before .before .before .best-baud-divisors .ensures) (c .before .before .tell-best .ensures))
 
 pub answer-uart-spec : {M : Type 1} → statement M
 answer-uart-spec =
     tie.close
     (tie.spec
+    room-requires
+    add-result
+    returns
     slice-aggregate-only-numbers
     only-numbers-requires
     enum-known-word
@@ -57,6 +72,6 @@ answer-uart-spec =
     best-baud-divisors-requires
     tell-best-requires
     same-length
-    returns
+    returns-2
     same-length-2
-    returns-2)
+    returns-3)

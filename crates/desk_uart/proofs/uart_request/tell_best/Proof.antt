@@ -1,4 +1,5 @@
 -- `desk_uart::uart_request::tell_best` meets its contract.
+use native.Mathlib.Omega.{arith}
 use borrow.Author.Needs.{needs}
 use mathlib.Core.Path.{ap}
 use lib.Dec.{lit≤}
@@ -30,7 +31,7 @@ same-length-2 : tie.Need-same-length-2
 same-length-2 c = search needs
 
 returns-2 : tie.Need-returns-2
-returns-2 c = told-as showPair 20 (ap told (c .before .before .before .before .enum-told .given .1)) (lit≤ tt) (c .before .before .put-refusal .ensures)
+returns-2 c = told-as showPair 20 (ap told (c .before .before .before .before .enum-told .given .1)) (lit≤ tt) (c .before .before .put-refusal .ensures .fits (omega arith))
 
 pub tell-best-spec : {M : Type 1} → statement M
 tell-best-spec =

@@ -1,8 +1,8 @@
--- `desk_uart::pair::put_pair` meets its contract.
+-- `desk_uart::put_pair` meets its contract.
 use borrow.Author.Needs.{needs}
 use Rattle.desk_uart.proofs.Printing.{said-pair}
-use Rattle.desk_uart.proofs.pair.put_pair.Statement.{statement}
-use Rattle.desk_uart.proofs.pair.put_pair.Tie as tie
+use Rattle.desk_uart.proofs.put_pair.Statement.{statement}
+use Rattle.desk_uart.proofs.put_pair.Tie as tie
 
 cast-put-decimal : tie.Need-cast-put-decimal
 cast-put-decimal c = search needs
