@@ -25,16 +25,16 @@ returns : tie.Need-returns Inv-loop μ-loop
 returns c = (omega (arith, c .before .before .loop .inv .as-long), no-word (c .before .before .loop .inv) (omega arith) (past _ _ (c .if1 .taken)))
 
 word-end-requires : tie.Need-word-end-requires Inv-loop μ-loop
-word-end-requires c κs = omega arith
+word-end-requires c κs = tt
 
 sub-read-hex : tie.Need-sub-read-hex Inv-loop μ-loop
-sub-read-hex c = omega arith
+sub-read-hex c = let w = c .word-end .ensures .fits (omega arith) in omega (arith, w .begun, w .inside)
 
 part-read-hex-start : tie.Need-part-read-hex-start Inv-loop μ-loop
-part-read-hex-start c = omega arith
+part-read-hex-start c = let w = c .word-end .ensures .fits (omega arith) in omega (arith, w .begun, w .inside)
 
 part-read-hex-end : tie.Need-part-read-hex-end Inv-loop μ-loop
-part-read-hex-end c = omega arith
+part-read-hex-end c = let w = c .word-end .ensures .fits (omega arith) in omega (arith, w .begun, w .inside)
 
 read-hex-requires : tie.Need-read-hex-requires Inv-loop μ-loop
 read-hex-requires c κs = tt
@@ -55,7 +55,7 @@ same-length-2 : tie.Need-same-length-2 Inv-loop μ-loop
 same-length-2 c = c .before .before .before .before .before .before .before .loop .inv .as-long
 
 returns-2 : tie.Need-returns-2 Inv-loop μ-loop
-returns-2 c = (tt, empty-word (c .before .before .before .before .before .before .before .loop .inv) _ _ (omega arith) (c .before .before .before .before .word-end .ensures .2) (hex-as (c .enum-told .given .1) (c .before .before .read-hex .ensures)))
+returns-2 c = (tt, empty-word (c .before .before .before .before .before .before .before .loop .inv) _ _ (omega arith) (c .before .before .before .before .word-end .ensures .fits (omega arith) .one-word) (hex-as (c .enum-told .given .1) (c .before .before .read-hex .ensures)))
 
 enum-told-2 : tie.Need-enum-told-2 Inv-loop μ-loop
 enum-told-2 c = search needs
@@ -64,10 +64,10 @@ same-length-3 : tie.Need-same-length-3 Inv-loop μ-loop
 same-length-3 c = c .before .before .before .before .before .before .before .loop .inv .as-long
 
 returns-3 : tie.Need-returns-3 Inv-loop μ-loop
-returns-3 c = (tt, bad-word (c .before .before .before .before .before .before .before .loop .inv) _ _ (omega arith) (c .before .before .before .before .word-end .ensures .2) (hex-as (c .enum-told2 .given .1) (c .before .before .read-hex .ensures)))
+returns-3 c = (tt, bad-word (c .before .before .before .before .before .before .before .loop .inv) _ _ (omega arith) (c .before .before .before .before .word-end .ensures .fits (omega arith) .one-word) (hex-as (c .enum-told2 .given .1) (c .before .before .read-hex .ensures)))
 
 add-at : tie.Need-add-at Inv-loop μ-loop
-add-at c = omega arith
+add-at c = let w = c .before .before .before .before .before .word-end .ensures .fits (omega arith) in omega (arith, w .begun, w .inside)
 
 add-word : tie.Need-add-word Inv-loop μ-loop
 add-word c = omega arith
@@ -79,7 +79,7 @@ loop-less : tie.Need-loop-less Inv-loop μ-loop
 loop-less c = omega arith
 
 loop-again : tie.Need-loop-again Inv-loop μ-loop
-loop-again c = good-word (c .before .before .before .before .before .before .before .before .loop .inv) _ _ (omega arith) (c .before .before .before .before .before .word-end .ensures .2) _ (hex-as (c .before .v .given .1) (c .before .before .before .read-hex .ensures))
+loop-again c = good-word (c .before .before .before .before .before .before .before .before .loop .inv) _ _ (omega arith) (c .before .before .before .before .before .word-end .ensures .fits (omega arith) .one-word) _ (hex-as (c .before .v .given .1) (c .before .before .before .read-hex .ensures))
 
 same-length-4 : tie.Need-same-length-4 Inv-loop μ-loop
 same-length-4 c = c .before .loop .inv .as-long
