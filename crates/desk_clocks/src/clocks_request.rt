@@ -1,5 +1,5 @@
 // `clocks CRYSTAL W0 .. W49`.
-use crate::refusing::put_error;
+use crate::put_error;
 use clocks::Clocks;
 use clocks::arm::CpuClockRatio;
 use desk_answers::put_decimals;
@@ -12,19 +12,23 @@ use sources::TraceClk;
 use text::put_byte;
 use text::put_bytes;
 use text::put_decimal;
+use text::room;
 ghost use Prim.Native.Nat.{_+_, _≤_};
 ghost use mathlib.Core.Path.{_≡_};
 ghost use lib.ListN.{length};
 ghost use Rattle.words.specs.Words.{wordsFrom};
 ghost use Rattle.evaluation.specs.Evaluated.{told};
+ghost use Rattle.text.specs.Put.{InRoom};
 ghost use Rattle.desk_answers.specs.Answers.{Said, decimals, spoken};
 ghost use Rattle.desk_answers.specs.Reply.{ROOM, Says};
 ghost use Rattle.desk_clocks.specs.Requests.{ratioCode, chipClocks, showTrace, showLast, showClocks, ClocksReply};
 
 pub fn answer_clocks(line: &[u8], from: usize, out: &mut [u8], at: usize) -> usize
-    requires { ⌜ at + ROOM ≤ length (now out) ⌝ }
-    ensures { λ r. ⌜ Says (ClocksReply (wordsFrom (now (line .entry)) from)) (now (out .entry)) at (now (out .exit)) r ⌝ }
+    ensures { λ r. ⌜ InRoom ROOM (Says (ClocksReply (wordsFrom (now (line .entry)) from))) (now (out .entry)) at (now (out .exit)) r ⌝ }
 {
+    if room(out.len(), at) < 8192 {
+        return out.len() + 1;
+    }
     let mut n = [u32::MAX];
     let mut image = [0; 128];
     match read_image(line, from, &mut n, &mut image) {

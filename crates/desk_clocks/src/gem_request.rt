@@ -1,5 +1,5 @@
 // `gem 0 CRYSTAL W0 .. W49`, and `gem 1` likewise.
-use crate::refusing::put_error;
+use crate::put_error;
 use clocks::Clocks;
 use desk_answers::put_decimals;
 use desk_answers::put_fault;
@@ -15,11 +15,13 @@ use gem::calculate_gem_1_ref_clock;
 use registers::GEM_0_CLK_CTRL;
 use registers::GEM_1_CLK_CTRL;
 use registers::word;
+use text::room;
 ghost use Prim.Native.Nat.{_+_, _≤_};
 ghost use mathlib.Core.Path.{_≡_};
 ghost use lib.ListN.{length};
 ghost use Rattle.words.specs.Words.{wordsFrom};
 ghost use Rattle.gem.specs.Gem.{Right, told, outputs-in};
+ghost use Rattle.text.specs.Put.{InRoom};
 ghost use Rattle.desk_answers.specs.Answers.{Said, spoken};
 ghost use Rattle.desk_answers.specs.Reply.{ROOM, Says};
 ghost use Rattle.desk_clocks.specs.Gem.{gemWord, gemModule, told-gem, showHz, GemRight, GemReply};
@@ -31,9 +33,11 @@ pub enum GemAnswer {
 }
 
 pub fn answer_gem(line: &[u8], from: usize, out: &mut [u8], at: usize) -> usize
-    requires { ⌜ at + ROOM ≤ length (now out) ⌝ }
-    ensures { λ r. ⌜ Says (GemReply (wordsFrom (now (line .entry)) from)) (now (out .entry)) at (now (out .exit)) r ⌝ }
+    ensures { λ r. ⌜ InRoom ROOM (Says (GemReply (wordsFrom (now (line .entry)) from))) (now (out .entry)) at (now (out .exit)) r ⌝ }
 {
+    if room(out.len(), at) < 8192 {
+        return out.len() + 1;
+    }
     let mut n = [1, u32::MAX];
     let mut image = [0; 128];
     match read_image(line, from, &mut n, &mut image) {

@@ -1,4 +1,5 @@
 -- `desk_clocks::clocks_request::put_chip` meets its contract.
+use native.Mathlib.Omega.{arith}
 use borrow.Author.Needs.{needs}
 use Rattle.desk_clocks.proofs.Telling.{numbers-as}
 use Rattle.desk_clocks.proofs.clocks_request.put_chip.Statement.{statement}
@@ -17,7 +18,7 @@ same-length : tie.Need-same-length
 same-length c = search needs
 
 returns : tie.Need-returns
-returns c = numbers-as (c .before .before .before .before .before .chip-clocks .ensures) (c .before .before .put-decimals .ensures)
+returns c = numbers-as (c .before .before .before .before .before .chip-clocks .ensures) (c .before .before .put-decimals .ensures .fits (omega arith))
 
 pub put-chip-spec : {M : Type 1} → statement M
 put-chip-spec =

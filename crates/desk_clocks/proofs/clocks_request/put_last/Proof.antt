@@ -20,13 +20,15 @@ slice-aggregate-put-decimals : tie.Need-slice-aggregate-put-decimals
 slice-aggregate-put-decimals c = search needs
 
 put-decimals-requires : tie.Need-put-decimals-requires
-put-decimals-requires c κs = room-left 12 44 (trace-row (omega arith) (c .before .before .before .before .before .before .before .before .before .before .before .before .put-byte .ensures) (c .before .before .before .before .before .before .before .before .put-trace .ensures) (c .before .before .before .before .put-byte2 .ensures)) (omega arith)
+put-decimals-requires c κs = tt
 
 same-length : tie.Need-same-length
 same-length c = search needs
 
 returns : tie.Need-returns
-returns c = within 56 (lit≤ tt) (joined 12 44 (trace-row (omega arith) (c .before .before .before .before .before .before .before .before .before .before .before .before .before .before .before .put-byte .ensures) (c .before .before .before .before .before .before .before .before .before .before .before .put-trace .ensures) (c .before .before .before .before .before .before .before .put-byte2 .ensures)) (c .before .before .put-decimals .ensures))
+returns c =
+    let row = trace-row (omega arith) (c .before .before .before .before .before .before .before .before .before .before .before .before .before .before .before .put-byte .ensures) (c .before .before .before .before .before .before .before .before .before .before .before .put-trace .ensures) (c .before .before .before .before .before .before .before .put-byte2 .ensures) in
+    within 56 (lit≤ tt) (joined 12 44 row (c .before .before .put-decimals .ensures .fits (room-left 12 44 row (omega arith))))
 
 pub put-last-spec : {M : Type 1} → statement M
 put-last-spec =

@@ -1,4 +1,7 @@
 -- `desk_clocks::gem_request::answer_gem` meets its contract.
+use native.Mathlib.Omega.{arith}
+use mathlib.Core.Path.{refl}
+use Rattle.bounds.proofs.Bound.{kept, past}
 use borrow.Author.Needs.{needs}
 use mathlib.Core.Path.{sym}
 use lib.Dec.{lit≤}
@@ -6,6 +9,15 @@ use lib.Seq.{length-take-le}
 use Rattle.desk_image.proofs.Replying.{counted, image-faulted, image-replied}
 use Rattle.desk_clocks.proofs.gem_request.answer_gem.Statement.{statement}
 use Rattle.desk_clocks.proofs.gem_request.answer_gem.Tie as tie
+
+room-requires : tie.Need-room-requires
+room-requires c κs = search needs
+
+add-result : tie.Need-add-result
+add-result c = search needs
+
+returns : tie.Need-returns
+returns c = past (omega arith) (refl, refl)
 
 slice-aggregate-read-image : tie.Need-slice-aggregate-read-image
 slice-aggregate-read-image c = search needs
@@ -32,10 +44,10 @@ array-read-gem-answer-2 : tie.Need-array-read-gem-answer-2
 array-read-gem-answer-2 c = search needs
 
 array-share-prefix-image : tie.Need-array-share-prefix-image
-array-share-prefix-image c = counted _ (c .before .before .before .before .before .read-image .result) (c .before .before .before .before .before .read-image .ensures .0) (c .before .count .given .1)
+array-share-prefix-image c = counted _ (c .before .before .before .before .before .read-image .result) (c .before .before .before .before .before .read-image .ensures .fits (omega arith) .0) (c .before .count .given .1)
 
 slice-aggregate-gem-answer : tie.Need-slice-aggregate-gem-answer
-slice-aggregate-gem-answer c = sym (length-take-le _ _ (counted _ (c .before .before .before .before .before .before .read-image .result) (c .before .before .before .before .before .before .read-image .ensures .0) (c .before .before .count .given .1)))
+slice-aggregate-gem-answer c = sym (length-take-le _ _ (counted _ (c .before .before .before .before .before .before .read-image .result) (c .before .before .before .before .before .before .read-image .ensures .fits (omega arith) .0) (c .before .before .count .given .1)))
 
 gem-answer-requires : tie.Need-gem-answer-requires
 gem-answer-requires c κs = search needs
@@ -46,19 +58,22 @@ tell-gem-requires c κs = search needs
 same-length : tie.Need-same-length
 same-length c = search needs
 
-returns : tie.Need-returns
-returns c = image-faulted _ _ _ (c .before .before .before .before .before .before .before .before .before .read-image .ensures .1) (c .before .before .before .before .before .word .given .1) (c .before .before .put-fault .ensures)
+returns-2 : tie.Need-returns-2
+returns-2 c = kept (omega arith) (image-faulted _ _ _ (c .before .before .before .before .before .before .before .before .before .read-image .ensures .fits (omega arith) .1) (c .before .before .before .before .before .word .given .1) (c .before .before .put-fault .ensures .fits (omega arith)))
 
 same-length-2 : tie.Need-same-length-2
 same-length-2 c = search needs
 
-returns-2 : tie.Need-returns-2
-returns-2 c = image-replied _ _ _ (c .before .before .before .before .before .before .before .before .before .before .before .read-image .ensures .1) 100 _ (lit≤ tt) (c .before .before .before .before .before .before .before .count .given .1) (c .before .before .before .before .gem-answer .ensures) (c .before .before .tell-gem .ensures)
+returns-3 : tie.Need-returns-3
+returns-3 c = kept (omega arith) (image-replied _ _ _ (c .before .before .before .before .before .before .before .before .before .before .before .read-image .ensures .fits (omega arith) .1) 100 _ (lit≤ tt) (c .before .before .before .before .before .before .before .count .given .1) (c .before .before .before .before .gem-answer .ensures) (c .before .before .tell-gem .ensures))
 
 pub answer-gem-spec : {M : Type 1} → statement M
 answer-gem-spec =
     tie.close
     (tie.spec
+    room-requires
+    add-result
+    returns
     slice-aggregate-read-image
     slice-aggregate-read-image-2
     read-image-requires
@@ -72,6 +87,6 @@ answer-gem-spec =
     gem-answer-requires
     tell-gem-requires
     same-length
-    returns
+    returns-2
     same-length-2
-    returns-2)
+    returns-3)

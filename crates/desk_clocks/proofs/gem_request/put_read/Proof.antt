@@ -1,4 +1,5 @@
 -- `desk_clocks::gem_request::put_read` meets its contract.
+use native.Mathlib.Omega.{arith}
 use borrow.Author.Needs.{needs}
 use mathlib.Core.Path.{ap}
 use lib.Dec.{lit≤}
@@ -31,13 +32,13 @@ same-length : tie.Need-same-length
 same-length c = search needs
 
 returns : tie.Need-returns
-returns c = told-as showHz 11 (ap told (c .before .before .before .before .before .before .read .given .1)) (lit≤ tt) (c .before .before .put-decimals .ensures)
+returns c = told-as showHz 11 (ap told (c .before .before .before .before .before .before .read .given .1)) (lit≤ tt) (c .before .before .put-decimals .ensures .fits (omega arith))
 
 same-length-2 : tie.Need-same-length-2
 same-length-2 c = search needs
 
 returns-2 : tie.Need-returns-2
-returns-2 c = told-as showHz 40 (ap told (c .before .before .before .before .before .before .read2 .given .1)) (lit≤ tt) (carrying 2 (c .before .before .before .before .number .ensures) (c .before .before .put-refusal-with .ensures))
+returns-2 c = told-as showHz 40 (ap told (c .before .before .before .before .before .before .read2 .given .1)) (lit≤ tt) (carrying 2 (c .before .before .before .before .number .ensures) (c .before .before .put-refusal-with .ensures .fits (omega arith)))
 
 pub put-read-spec : {M : Type 1} → statement M
 put-read-spec =
