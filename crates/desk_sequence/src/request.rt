@@ -1,5 +1,5 @@
 // `pll-seq arm|ddr|io BYPASSED FDIV CP RES LOCK LIMIT R1 R2 ..`, read from left to right.
-use crate::log::put_log;
+use crate::put_log;
 use crate::returned::Returned;
 use crate::returned::read_words;
 use desk_answers::put_fault;
@@ -15,20 +15,24 @@ use pll_settings::PllConfig;
 use pll_start::Start;
 use pll_start::configure_pll_unchecked;
 use registers::PllType;
+use text::room;
 ghost use Prim.Native.Nat.{_+_, _≤_};
 ghost use mathlib.Core.Path.{_≡_};
 ghost use lib.ListN.{length};
 ghost use Rattle.words.specs.Words.{wordsFrom};
 ghost use Rattle.pll_sequence.specs.Runs.{ahead-of};
+ghost use Rattle.text.specs.Put.{InRoom};
 ghost use Rattle.desk_answers.specs.Answers.{Said};
 ghost use Rattle.desk_answers.specs.Reply.{ROOM, Says};
 ghost use Rattle.desk_sequence.specs.Printed.{printed};
 ghost use Rattle.desk_sequence.specs.Requests.{pllOf, RunReply, WordsReply, PlanReply, SequenceReply};
 
 pub fn answer_pll_seq(line: &[u8], from: usize, out: &mut [u8], at: usize) -> usize
-    requires { ⌜ at + ROOM ≤ length (now out) ⌝ }
-    ensures { λ r. ⌜ Says (SequenceReply (wordsFrom (now (line .entry)) from)) (now (out .entry)) at (now (out .exit)) r ⌝ }
+    ensures { λ r. ⌜ InRoom ROOM (Says (SequenceReply (wordsFrom (now (line .entry)) from))) (now (out .entry)) at (now (out .exit)) r ⌝ }
 {
+    if room(out.len(), at) < 8192 {
+        return out.len() + 1;
+    }
     match read_name(line, from, b"arm ddr io") {
         Named::Bad(fault) => put_fault(2, fault, out, at),
         Named::Name(i, next) => answer_plan(pll(i), line, next, out, at),

@@ -23,25 +23,25 @@ enum-known-count : tie.Need-enum-known-count
 enum-known-count c = search needs
 
 array-share-prefix-words : tie.Need-array-share-prefix-words
-array-share-prefix-words c = omega (arith, within-row (c .before .count .given .1) (c .before .before .before .before .read-words .ensures .0), c .before .before .before .before .read-words .kept .1 .1 .1 .0)
+array-share-prefix-words c = omega (arith, within-row (c .before .count .given .1) (c .before .before .before .before .read-words .ensures .fits (omega arith) .0), c .before .before .before .before .read-words .kept .1 .1 .1 .0)
 
 slice-aggregate-tell-start : tie.Need-slice-aggregate-tell-start
 slice-aggregate-tell-start c = sym (length-take-le _ _ (array-share-prefix-words (c .before)))
 
 tell-start-requires : tie.Need-tell-start-requires
-tell-start-requires c κs = (omega (arith, slice-aggregate-tell-start (c .before), within-row (c .before .before .before .count .given .1) (c .before .before .before .before .before .before .read-words .ensures .0)), omega arith)
+tell-start-requires c κs = (omega (arith, slice-aggregate-tell-start (c .before), within-row (c .before .before .before .count .given .1) (c .before .before .before .before .before .before .read-words .ensures .fits (omega arith) .0)), omega arith)
 
 same-length : tie.Need-same-length
 same-length c = search needs
 
 returns : tie.Need-returns
-returns c = bad-word _ _ (c .before .before .before .before .before .before .before .before .read-words .ensures .1) (c .before .before .before .before .before .word .given .1) (c .before .before .put-fault .ensures)
+returns c = bad-word _ _ (c .before .before .before .before .before .before .before .before .read-words .ensures .fits (omega arith) .1) (c .before .before .before .before .before .word .given .1) (c .before .before .put-fault .ensures .fits (omega arith))
 
 same-length-2 : tie.Need-same-length-2
 same-length-2 c = search needs
 
 returns-2 : tie.Need-returns-2
-returns-2 c = words-told _ _ (c .before .before .before .before .before .before .before .before .before .read-words .ensures .1) (c .before .before .before .before .before .before .count .given .1) (c .before .before .tell-start .ensures)
+returns-2 c = words-told _ _ (c .before .before .before .before .before .before .before .before .before .read-words .ensures .fits (omega arith) .1) (c .before .before .before .before .before .before .count .given .1) (c .before .before .tell-start .ensures)
 
 pub answer-words-spec : {M : Type 1} → statement M
 answer-words-spec =

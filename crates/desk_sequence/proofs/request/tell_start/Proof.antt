@@ -1,4 +1,5 @@
 -- `desk_sequence::request::tell_start` meets its contract.
+use native.Mathlib.Omega.{arith}
 use borrow.Author.Needs.{needs}
 use mathlib.Core.Path.{refl}
 use Rattle.desk_sequence.proofs.Replying.{ran, not-started}
@@ -42,19 +43,19 @@ same-length-2 : tie.Need-same-length-2
 same-length-2 c = search needs
 
 returns-2 : tie.Need-returns-2
-returns-2 c = not-started _ (c .before .before .before .before .before .before .configure-pll-unchecked .ensures) 12 (c .before .before .before .before .enum-told .given .1) refl (c .before .before .put-refusal .ensures)
+returns-2 c = not-started _ (c .before .before .before .before .before .before .configure-pll-unchecked .ensures) 12 (c .before .before .before .before .enum-told .given .1) refl (c .before .before .put-refusal .ensures .fits (omega arith))
 
 same-length-3 : tie.Need-same-length-3
 same-length-3 c = search needs
 
 returns-3 : tie.Need-returns-3
-returns-3 c = not-started _ (c .before .before .before .before .before .before .configure-pll-unchecked .ensures) 20 (c .before .before .before .before .enum-told2 .given .1) refl (c .before .before .put-refusal2 .ensures)
+returns-3 c = not-started _ (c .before .before .before .before .before .before .configure-pll-unchecked .ensures) 20 (c .before .before .before .before .enum-told2 .given .1) refl (c .before .before .put-refusal2 .ensures .fits (omega arith))
 
 same-length-4 : tie.Need-same-length-4
 same-length-4 c = search needs
 
 returns-4 : tie.Need-returns-4
-returns-4 c = not-started _ (c .before .before .before .before .before .before .configure-pll-unchecked .ensures) 13 (c .before .before .before .before .enum-told3 .given .1) refl (c .before .before .put-refusal3 .ensures)
+returns-4 c = not-started _ (c .before .before .before .before .before .before .configure-pll-unchecked .ensures) 13 (c .before .before .before .before .enum-told3 .given .1) refl (c .before .before .put-refusal3 .ensures .fits (omega arith))
 
 pub tell-start-spec : {M : Type 1} → statement M
 tell-start-spec =

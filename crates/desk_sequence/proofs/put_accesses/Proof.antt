@@ -1,11 +1,11 @@
--- `desk_sequence::log::put_accesses` meets its contract: `Logged` is what stands after i accesses.
+-- `desk_sequence::put_accesses` meets its contract: `Logged` is what stands after i accesses.
 use Prim.Native.Nat.{_-_}
 use native.Mathlib.Omega.{arith}
 use lib.ListN.{length}
 use Rattle.text.proofs.Writing.{as-long}
 use Rattle.desk_sequence.proofs.Writing.{Logged, none, room-for, next, whole}
-use Rattle.desk_sequence.proofs.log.put_accesses.Statement.{statement}
-use Rattle.desk_sequence.proofs.log.put_accesses.Tie as tie
+use Rattle.desk_sequence.proofs.put_accesses.Statement.{statement}
+use Rattle.desk_sequence.proofs.put_accesses.Tie as tie
 
 abbrev Inv-loop : tie.InvT-loop
 Inv-loop kinds numbers values out₀ at to₀ i₀ out to i = Logged kinds numbers values out₀ at out to i

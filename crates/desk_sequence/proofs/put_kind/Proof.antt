@@ -1,9 +1,9 @@
--- `desk_sequence::log::put_kind` meets its contract.
+-- `desk_sequence::put_kind` meets its contract.
 use borrow.Author.Needs.{needs}
 use native.Mathlib.Omega.{arith}
 use Rattle.desk_sequence.proofs.Writing.{reads, writes}
-use Rattle.desk_sequence.proofs.log.put_kind.Statement.{statement}
-use Rattle.desk_sequence.proofs.log.put_kind.Tie as tie
+use Rattle.desk_sequence.proofs.put_kind.Statement.{statement}
+use Rattle.desk_sequence.proofs.put_kind.Tie as tie
 
 slice-aggregate-put-bytes : tie.Need-slice-aggregate-put-bytes
 slice-aggregate-put-bytes c = search needs

@@ -1,8 +1,8 @@
--- `desk_sequence::log::put_access` meets its contract.
+-- `desk_sequence::put_access` meets its contract.
 use borrow.Author.Needs.{needs}
 use Rattle.desk_sequence.proofs.Writing.{an-access}
-use Rattle.desk_sequence.proofs.log.put_access.Statement.{statement}
-use Rattle.desk_sequence.proofs.log.put_access.Tie as tie
+use Rattle.desk_sequence.proofs.put_access.Statement.{statement}
+use Rattle.desk_sequence.proofs.put_access.Tie as tie
 
 put-kind-requires : tie.Need-put-kind-requires
 put-kind-requires c κs = search needs

@@ -1,9 +1,10 @@
--- `desk_sequence::log::put_end` meets its contract.
+-- `desk_sequence::put_end` meets its contract.
+use native.Mathlib.Omega.{arith}
 use borrow.Author.Needs.{needs}
 use lib.Dec.{lit≤}
 use Rattle.desk_sequence.proofs.Writing.{end-as, put-as}
-use Rattle.desk_sequence.proofs.log.put_end.Statement.{statement}
-use Rattle.desk_sequence.proofs.log.put_end.Tie as tie
+use Rattle.desk_sequence.proofs.put_end.Statement.{statement}
+use Rattle.desk_sequence.proofs.put_end.Tie as tie
 
 enum-told : tie.Need-enum-told
 enum-told c = search needs
@@ -51,13 +52,13 @@ same-length-3 : tie.Need-same-length-3
 same-length-3 c = search needs
 
 returns-3 : tie.Need-returns-3
-returns-3 c = end-as (c .before .before .before .before .enum-told3 .given .1) (c .before .before .put-refusal .ensures)
+returns-3 c = end-as (c .before .before .before .before .enum-told3 .given .1) (c .before .before .put-refusal .ensures .fits (omega arith))
 
 same-length-4 : tie.Need-same-length-4
 same-length-4 c = search needs
 
 returns-4 : tie.Need-returns-4
-returns-4 c = end-as (c .before .before .before .before .enum-told4 .given .1) (c .before .before .put-refusal2 .ensures)
+returns-4 c = end-as (c .before .before .before .before .enum-told4 .given .1) (c .before .before .put-refusal2 .ensures .fits (omega arith))
 
 pub put-end-spec : {M : Type 1} → statement M
 put-end-spec =

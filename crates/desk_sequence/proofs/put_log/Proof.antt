@@ -1,12 +1,12 @@
--- `desk_sequence::log::put_log` meets its contract.
+-- `desk_sequence::put_log` meets its contract.
 use borrow.Author.Needs.{needs}
 use mathlib.Core.Path.{sym, _∙_}
 use denote.Ref.{now}
 use native.Mathlib.Omega.{arith}
 use lib.Seq.{length-take-le}
 use Rattle.desk_sequence.proofs.Writing.{room-for-end, with-end}
-use Rattle.desk_sequence.proofs.log.put_log.Statement.{statement}
-use Rattle.desk_sequence.proofs.log.put_log.Tie as tie
+use Rattle.desk_sequence.proofs.put_log.Statement.{statement}
+use Rattle.desk_sequence.proofs.put_log.Tie as tie
 
 slice-aggregate-put-accesses : tie.Need-slice-aggregate-put-accesses
 slice-aggregate-put-accesses c = sym (length-take-le _ _ (c .before .before .before .before .before .pre .0 .0))
