@@ -2,16 +2,20 @@
 use desk_answers::put_fault;
 use desk_words::Fault;
 use text::put_bytes;
+use text::room;
 ghost use Prim.Native.Nat.{_+_, _≤_};
 ghost use lib.ListN.{length};
 ghost use Rattle.words.specs.Words.{wordsFrom};
+ghost use Rattle.text.specs.Put.{InRoom};
 ghost use Rattle.desk_answers.specs.Reply.{ROOM, Says};
 ghost use Rattle.desk_requests.specs.Help.{HelpReply};
 
 pub fn answer_help(line: &[u8], from: usize, out: &mut [u8], at: usize) -> usize
-    requires { ⌜ at + ROOM ≤ length (now out) ⌝ }
-    ensures { λ r. ⌜ Says (HelpReply (wordsFrom (now (line .entry)) from)) (now (out .entry)) at (now (out .exit)) r ⌝ }
+    ensures { λ r. ⌜ InRoom ROOM (Says (HelpReply (wordsFrom (now (line .entry)) from))) (now (out .entry)) at (now (out .exit)) r ⌝ }
 {
+    if room(out.len(), at) < 8192 {
+        return out.len() + 1;
+    }
     if from <= line.len() {
         return put_fault(2, Fault::OneTooMany, out, at);
     }

@@ -18,18 +18,21 @@ use desk_uart::answer_uart_list;
 use desk_words::Named;
 use desk_words::read_name;
 use help::answer_help;
+use text::room;
 ghost use Prim.Native.Nat.{_+_, _≤_};
 ghost use lib.ListN.{length};
 ghost use Rattle.words.specs.Words.{words, wordsFrom};
+ghost use Rattle.text.specs.Put.{InRoom};
 ghost use Rattle.desk_answers.specs.Reply.{ROOM, Says};
 ghost use Rattle.desk_words.specs.Names.{name, Name};
 ghost use Rattle.desk_requests.specs.Requests.{names, Answer};
 
-// For callers that have seen that there is room for the longest answer.
 pub fn answer_request(line: &[u8], out: &mut [u8], at: usize) -> usize
-    requires { ⌜ at + ROOM ≤ length (now out) ⌝ }
-    ensures { λ r. ⌜ Says (Answer (words (now (line .entry)))) (now (out .entry)) at (now (out .exit)) r ⌝ }
+    ensures { λ r. ⌜ InRoom ROOM (Says (Answer (words (now (line .entry))))) (now (out .entry)) at (now (out .exit)) r ⌝ }
 {
+    if room(out.len(), at) < 8192 {
+        return out.len() + 1;
+    }
     match read_name(
         line,
         0,

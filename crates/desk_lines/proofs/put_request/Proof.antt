@@ -14,8 +14,13 @@ same-length : tie.Need-same-length
 same-length c = search needs
 
 returns : tie.Need-returns
-returns c = with-newline (c .before .before .before .before .before .before .before .before .before .before .pre) (c .before .before .before .before .before .before .answer-request .ensures) (c .before .before .put-byte .ensures)
+returns c = with-newline (c .before .before .before .before .before .before .before .before .before .before .pre) (c .before .before .before .before .before .before .answer-request .ensures .fits (c .before .before .before .before .before .before .before .before .before .before .pre)) (c .before .before .put-byte .ensures)
 
 pub put-request-spec : {M : Type 1} → statement M
 put-request-spec =
-    tie.close (tie.spec answer-request-requires put-byte-requires same-length returns)
+    tie.close
+    (tie.spec
+    answer-request-requires
+    put-byte-requires
+    same-length
+    returns)
