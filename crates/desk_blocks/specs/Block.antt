@@ -2,8 +2,8 @@
 use Prim.Native.Nat.{ℕ, _+_, _-_, _≤_, _<_}
 use mathlib.Core.Path.{_≡_}
 use mathlib.Core.Bool.{Bool, true, false}
-use mathlib.Core.List.{List}
-use lib.ListN.{length}
+use mathlib.Core.List.{List, _++_}
+use lib.ListN.{length, drop}
 use Rattle.text.specs.Put.{Wrote}
 use Rattle.words.specs.Words.{part}
 use Rattle.desk_answers.specs.Reply.{ROOM}
@@ -31,3 +31,11 @@ pub record LinesOf (input : List ℕ) (from : ℕ) (before after : List ℕ) (st
   pub fresh : step .swallowing ≡ false
   pub if-full : step .full ≡ true → length before < step .written + ROOM
   pub if-done : step .full ≡ false → NoNewline (part input (step .used) (length input))
+
+-- the bytes from `from` up to `to`, as far as there are any, stand in front, and behind them nothing has changed
+abbrev pub Moved : List ℕ → ℕ → ℕ → List ℕ → ℕ → Type 0
+Moved before from to after kept = (kept ≡ length (part before from to)) × (after ≡ part before from to ++ drop kept before)
+
+-- a block that has ended before `from` is left as it is
+abbrev pub nothing-done : ℕ → Bool → Step
+nothing-done from swallowing = record { used = from; written = 0; swallowing = swallowing; full = false }

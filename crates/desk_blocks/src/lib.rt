@@ -2,13 +2,14 @@
 // kept for the next; a line that has grown too long is answered at once, and the rest of it is swallowed as it comes.
 use desk_lines::Answered;
 use desk_lines::answer_line;
+use text::room;
 use words::until;
-ghost use Prim.Native.Nat.{_+_, _-_, _≤_};
+ghost use Prim.Native.Nat.{_≤_};
 ghost use mathlib.Core.Path.{_≡_};
 ghost use mathlib.Core.Bool.{false};
-ghost use lib.ListN.{length, take};
-ghost use Rattle.words.specs.Words.{part};
-ghost use Rattle.desk_blocks.specs.Block.{Block, LinesOf};
+ghost use lib.ListN.{length};
+ghost use Rattle.bounds.specs.Within.{Within};
+ghost use Rattle.desk_blocks.specs.Block.{Block, LinesOf, Moved, nothing-done};
 
 // How far the block has been used, how much has been written, whether the rest of a line is to be swallowed, and whether
 // there is more to answer once the buffer has been emptied.
@@ -19,12 +20,19 @@ pub struct Step {
     pub full: bool,
 }
 
-// Answers what it can of a block from `from` on into an empty buffer. The position is one that an earlier step answered,
-// or 0, hence the requirement.
+// Answers what it can of a block from `from` on into an empty buffer. The position is one that an earlier step answered, or 0;
+// past the block's end there is nothing to do.
 pub fn answer_block(input: &[u8], from: usize, swallowing: bool, out: &mut [u8]) -> Step
-    requires { ⌜ from ≤ length (now input) ⌝ }
-    ensures { λ r. ⌜ Block (now (input .entry)) from swallowing (now (out .entry)) (now (out .exit)) r ⌝ }
+    ensures { λ r. ⌜ Within from (length (now (input .entry))) (Block (now (input .entry)) from swallowing (now (out .entry)) (now (out .exit)) r) ((r ≡ nothing-done from swallowing) × (now (out .exit) ≡ now (out .entry))) ⌝ }
 {
+    if input.len() < from {
+        return Step {
+            used: from,
+            written: 0,
+            swallowing,
+            full: false,
+        };
+    }
     if swallowing {
         let end = until(input, from, 10);
         if end == input.len() {
@@ -106,10 +114,10 @@ fn answer_lines(input: &[u8], from: usize, out: &mut [u8]) -> Step
 
 // Moves what is left of a line to the front, and answers how much that is.
 pub fn keep(input: &mut [u8], from: usize, to: usize) -> usize
-    requires { ⌜ (from ≤ to) × (to ≤ length (now input)) ⌝ }
-    ensures { λ r. ⌜ (r ≡ to - from) × (take r (now (input .exit)) ≡ part (now (input .entry)) from to) ⌝ }
+    ensures { λ r. ⌜ Moved (now (input .entry)) from to (now (input .exit)) r ⌝ }
 {
-    let n = to - from;
+    let past = room(to, input.len());
+    let n = room(to - past, from);
     let mut i = 0;
     while i < n {
         input[i] = input[from + i];

@@ -16,10 +16,10 @@ abbrev μ-loop : tie.MeasureT-loop
 μ-loop input from out₀ used₀ written₀ end₀ out used written end = length input - used
 
 until-requires : tie.Need-until-requires Inv-loop μ-loop
-until-requires c κs = c .before .before .pre
+until-requires c κs = tt
 
 loop-holds : tie.Need-loop-holds Inv-loop μ-loop
-loop-holds c = no-lines _ (c .before .before .before .pre) (c .until .ensures)
+loop-holds c = no-lines _ (c .before .before .before .pre) (c .until .ensures .fits (c .before .before .before .pre))
 
 sub-answer-line : tie.Need-sub-answer-line Inv-loop μ-loop
 sub-answer-line c = c .before .loop .inv .until .begun
@@ -49,13 +49,13 @@ add-used : tie.Need-add-used Inv-loop μ-loop
 add-used c = omega arith
 
 until-requires-2 : tie.Need-until-requires-2 Inv-loop μ-loop
-until-requires-2 c κs = omega arith
+until-requires-2 c κs = tt
 
 loop-less : tie.Need-loop-less Inv-loop μ-loop
 loop-less c = omega (arith, c .before .before .before .before .before .before .before .before .before .before .loop .inv .until .begun)
 
 loop-again : tie.Need-loop-again Inv-loop μ-loop
-loop-again c = a-line (c .before .before .before .before .before .before .before .before .before .before .loop .inv) (c .before .before .before .before .before .before .before .before .before .loop-test .taken) (at-next (c .before .before .before .before .before .before .answer-line .ensures) (c .before .before .next .given .1)) (c .until2 .ensures)
+loop-again c = a-line (c .before .before .before .before .before .before .before .before .before .before .loop .inv) (c .before .before .before .before .before .before .before .before .before .loop-test .taken) (at-next (c .before .before .before .before .before .before .answer-line .ensures) (c .before .before .next .given .1)) (c .until2 .ensures .fits (omega arith))
 
 same-length-2 : tie.Need-same-length-2 Inv-loop μ-loop
 same-length-2 c = as-long (c .before .loop .inv .wrote)

@@ -1,19 +1,25 @@
 -- `desk_blocks::keep` meets its contract: `Kept` is what holds after i bytes.
+use Rattle.desk_blocks.proofs.Keeping.{Kept, none, one-more, all, kept-bytes}
+use borrow.Author.Needs.{needs}
 use Prim.Native.Nat.{_-_}
-use mathlib.Core.Path.{_≡_, refl}
 use native.Mathlib.Omega.{arith}
-use Rattle.desk_blocks.proofs.Keeping.{Kept, none, one-more, all}
 use Rattle.desk_blocks.proofs.keep.Statement.{statement}
 use Rattle.desk_blocks.proofs.keep.Tie as tie
 
 abbrev Inv-loop : tie.InvT-loop
-Inv-loop input₀ from to n i₀ input i = Kept input₀ from to input i
+Inv-loop input₀ from to past n i₀ input i = Kept input₀ from n input i
 
 abbrev μ-loop : tie.MeasureT-loop
-μ-loop input₀ from to n i₀ input i = n - i
+μ-loop input₀ from to past n i₀ input i = n - i
 
-sub-n : tie.Need-sub-n Inv-loop μ-loop
-sub-n c = omega arith
+room-requires : tie.Need-room-requires Inv-loop μ-loop
+room-requires c κs = search needs
+
+sub-room : tie.Need-sub-room Inv-loop μ-loop
+sub-room c = omega arith
+
+room-requires-2 : tie.Need-room-requires-2 Inv-loop μ-loop
+room-requires-2 c κs = search needs
 
 loop-holds : tie.Need-loop-holds Inv-loop μ-loop
 loop-holds c = none _ _ _
@@ -40,7 +46,7 @@ same-length : tie.Need-same-length Inv-loop μ-loop
 same-length c = c .before .loop .inv .as-long
 
 returns : tie.Need-returns Inv-loop μ-loop
-returns c = (refl, all (c .before .loop .inv) (c .loop-test .left))
+returns c = all _ (c .before .loop .inv) (c .loop-test .left) (kept-bytes _ _ _ (c .before .before .before .room .ensures) (c .before .before .room2 .ensures))
 
 pub keep-spec : {M : Type 1} → statement M
 keep-spec =
@@ -48,7 +54,9 @@ keep-spec =
     (tie.spec
     Inv-loop
     μ-loop
-    sub-n
+    room-requires
+    sub-room
+    room-requires-2
     loop-holds
     add-input
     slice-read-input
