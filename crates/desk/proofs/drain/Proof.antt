@@ -21,28 +21,28 @@ sub-turns : tie.Need-sub-turns Inv-loop μ-loop
 sub-turns c = omega arith
 
 answer-block-requires : tie.Need-answer-block-requires Inv-loop μ-loop
-answer-block-requires c κs = omega arith
+answer-block-requires c κs = tt
 
 slice-reshare-prefix-write-all : tie.Need-slice-reshare-prefix-write-all Inv-loop μ-loop
-slice-reshare-prefix-write-all c = still-inside (c .before .before .answer-block .ensures .wrote)
+slice-reshare-prefix-write-all c = still-inside (c .before .before .answer-block .ensures .fits (omega arith) .wrote)
 
 slice-aggregate-write-all : tie.Need-slice-aggregate-write-all Inv-loop μ-loop
-slice-aggregate-write-all c = sym (length-take-le _ _ (still-inside (c .before .before .before .answer-block .ensures .wrote)))
+slice-aggregate-write-all c = sym (length-take-le _ _ (still-inside (c .before .before .before .answer-block .ensures .fits (omega arith) .wrote)))
 
 write-all-requires : tie.Need-write-all-requires Inv-loop μ-loop
 write-all-requires c κs = tt
 
 same-length : tie.Need-same-length Inv-loop μ-loop
-same-length c = as-long (c .before .before .before .before .before .before .before .answer-block .ensures .wrote) ∙ c .before .before .before .before .before .before .before .before .before .before .loop .inv .1
+same-length c = as-long (c .before .before .before .before .before .before .before .answer-block .ensures .fits (omega arith) .wrote) ∙ c .before .before .before .before .before .before .before .before .before .before .loop .inv .1
 
 returns : tie.Need-returns Inv-loop μ-loop
-returns c = c .before .before .before .before .before .before .before .answer-block .ensures .within
+returns c = c .before .before .before .before .before .before .before .answer-block .ensures .fits (omega arith) .within
 
 loop-less : tie.Need-loop-less Inv-loop μ-loop
 loop-less c = omega arith
 
 loop-again : tie.Need-loop-again Inv-loop μ-loop
-loop-again c = (c .before .before .before .before .before .before .before .answer-block .ensures .within, as-long (c .before .before .before .before .before .before .before .answer-block .ensures .wrote) ∙ c .before .before .before .before .before .before .before .before .before .before .loop .inv .1)
+loop-again c = (c .before .before .before .before .before .before .before .answer-block .ensures .fits (omega arith) .within, as-long (c .before .before .before .before .before .before .before .answer-block .ensures .fits (omega arith) .wrote) ∙ c .before .before .before .before .before .before .before .before .before .before .loop .inv .1)
 
 same-length-2 : tie.Need-same-length-2 Inv-loop μ-loop
 same-length-2 c = c .before .loop .inv .1
@@ -51,10 +51,10 @@ returns-2 : tie.Need-returns-2 Inv-loop μ-loop
 returns-2 c = c .before .loop .inv .0
 
 same-length-3 : tie.Need-same-length-3 Inv-loop μ-loop
-same-length-3 c = as-long (c .before .before .before .before .before .answer-block .ensures .wrote) ∙ c .before .before .before .before .before .before .before .before .loop .inv .1
+same-length-3 c = as-long (c .before .before .before .before .before .answer-block .ensures .fits (omega arith) .wrote) ∙ c .before .before .before .before .before .before .before .before .loop .inv .1
 
 returns-3 : tie.Need-returns-3 Inv-loop μ-loop
-returns-3 c = c .before .before .before .before .before .answer-block .ensures .within
+returns-3 c = c .before .before .before .before .before .answer-block .ensures .fits (omega arith) .within
 
 pub drain-spec : {M : Type 1} → statement M
 drain-spec =

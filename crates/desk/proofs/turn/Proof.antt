@@ -1,9 +1,8 @@
 -- `desk::turn` keeps within the input.
+use Rattle.desk_blocks.proofs.Keeping.{kept-within}
 use borrow.Author.Needs.{needs}
 use mathlib.Core.Path.{sym}
-use Prim.Native.Nat.{_+_}
 use native.Mathlib.Omega.{arith}
-use lib.ListN.{length-take}
 use lib.Seq.{length-take-le}
 use Rattle.desk.proofs.turn.Statement.{statement}
 use Rattle.desk.proofs.turn.Tie as tie
@@ -48,7 +47,7 @@ drain-requires : tie.Need-drain-requires
 drain-requires c κs = search needs
 
 keep-requires : tie.Need-keep-requires
-keep-requires c κs = (omega (arith, c .before .before .before .drain .ensures, length-take (c .before .before .before .before .before .before .before .before .before .before .before .before .before .args .held .count + c .before .before .before .before .before .before .before .before .before .fill .result) (c .before .before .before .before .before .before .before .before .before .fill .last .0)), omega (arith, c .before .before .before .before .before .before .before .before .before .fill .ensures, c .before .before .before .before .before .before .before .before .before .fill .kept .0))
+keep-requires c κs = tt
 
 same-length-4 : tie.Need-same-length-4
 same-length-4 c = search needs
@@ -57,7 +56,7 @@ same-length-5 : tie.Need-same-length-5
 same-length-5 c = search needs
 
 returns-3 : tie.Need-returns-3
-returns-3 c = search needs
+returns-3 c = omega (arith, c .before .before .keep .ensures .0, kept-within _ _ _)
 
 pub turn-spec : {M : Type 1} → statement M
 turn-spec =
