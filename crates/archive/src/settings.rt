@@ -24,8 +24,7 @@ fn hand_setting(setting: PllSetting, out: &mut [u32]) -> u64
                 s.loop_resistor as u32,
                 s.lock_count as u32,
             ];
-            put(out, &words);
-            0
+            put(out, &words)
         }
         PllSetting::ZeroInput => 4,
         PllSetting::MulRange(m) => carrying(5, m),

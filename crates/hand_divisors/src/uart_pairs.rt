@@ -17,8 +17,7 @@ pub fn hand_uart_best(reference: u32, baud: u32, out: &mut [u32]) -> u64
     match best_baud_divisors(reference, baud) {
         BestPair::Found(p) => {
             let words = [p.cd as u32, p.bdiv as u32, float32::bits(p.error)];
-            put(out, &words);
-            0
+            put(out, &words)
         }
         BestPair::NoPair => 8,
     }
