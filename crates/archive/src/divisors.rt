@@ -1,19 +1,17 @@
-// The divisor searches: two-stage, I2C, the TTC, and the UART's best pair.
+// The divisor searches: two-stage, I2C and the TTC.
 use hand_divisors::divisors::hand_two_stage;
 use hand_divisors::divisors::hand_two_stage_frequency;
 use hand_divisors::i2c_bus::hand_i2c_divisors;
 use hand_divisors::i2c_bus::hand_i2c_speed;
 use hand_divisors::timer::hand_ttc;
-use hand_divisors::uart_pairs::hand_uart_best;
 ghost use mathlib.Core.Path.{_≡_};
 ghost use Prim.Native.Nat.{_+_};
 ghost use Rattle.two_stage.specs.Answer as two-stage;
 ghost use Rattle.two_stage.specs.Best.{frequency};
 ghost use Rattle.i2c.specs.Divisors as i2c;
 ghost use Rattle.ttc.specs.Interval as ttc;
-ghost use Rattle.uart_best.specs.Best as uart;
 ghost use Rattle.handing.specs.Handed.{Handed};
-ghost use Rattle.hand_divisors.specs.Words.{pairWords, configWords, speedOf, intervalWords, baudWords};
+ghost use Rattle.hand_divisors.specs.Words.{pairWords, configWords, speedOf, intervalWords};
 
 // Two words: the first and the second divisor.
 #[no_mangle]
@@ -53,12 +51,4 @@ pub extern "C" fn ogr_ttc(reference: u32, frequency: u32, out: &mut [u32]) -> u6
     ensures { λ r. ⌜ Handed intervalWords 2 (ttc.Right reference frequency) (now (out .entry)) r (now (out .exit)) ⌝ }
 {
     hand_ttc(reference, frequency, out)
-}
-
-// Three words: the clock divisor, the baud divider, the error's bits.
-#[no_mangle]
-pub extern "C" fn ogr_uart_best(reference: u32, baud: u32, out: &mut [u32]) -> u64
-    ensures { λ r. ⌜ Handed baudWords 3 (uart.Right reference baud) (now (out .entry)) r (now (out .exit)) ⌝ }
-{
-    hand_uart_best(reference, baud, out)
 }

@@ -5,4 +5,4 @@ mod clock_image;
 mod divisors;
 mod sequence;
 mod settings;
-mod uart_records;
+mod uart;

@@ -112,8 +112,7 @@ pub fn hand_clocks(crystal: u32, image: &[u32], out: &mut [u32]) -> u64
     match new_from_regs(crystal, image) {
         Evaluated::Clocks(c) => {
             let words = clock_words(c);
-            put(out, &words);
-            0
+            put(out, &words)
         }
         Evaluated::Refused(e) => error_code(e),
     }

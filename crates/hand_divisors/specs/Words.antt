@@ -6,11 +6,9 @@ use Rattle.two_stage.specs.declared.DivisorPair.{DivisorPair}
 use Rattle.i2c.specs.declared.ClockConfig.{ClockConfig}
 use Rattle.i2c.specs.declared.Speed.{Speed}
 use Rattle.i2c.specs.declared.Speed.the-variants.{Normal100kHz, HighSpeed400KHz}
-use Rattle.float32.specs.Whole.{bitsOf}
 use Rattle.ttc.specs.declared.PrescalerReg.{PrescalerReg}
 use Rattle.ttc.specs.declared.PrescalerReg.the-variants.{None, Value}
 use Rattle.ttc.specs.declared.Setting.{Setting}
-use Rattle.uart_candidate.specs.declared.BaudDivisors.{BaudDivisors}
 
 abbrev pub pairWords : DivisorPair → List ℕ
 pairWords p = p .div0 ∷ p .div1 ∷ []
@@ -29,6 +27,3 @@ prescalerWord (Value p) = p + 1
 
 abbrev pub intervalWords : Setting → List ℕ
 intervalWords s = prescalerWord (s .«prescaler_reg») ∷ s .«interval_ticks» ∷ []
-
-abbrev pub baudWords : BaudDivisors → List ℕ
-baudWords p = p .cd ∷ p .bdiv ∷ bitsOf (p .error) ∷ []

@@ -21,8 +21,7 @@ pub fn hand_two_stage(reference: u32, target: u32, largest: u32, out: &mut [u32]
     match find_two_stage_divisors(reference, target, largest) {
         TwoStage::Found(p) => {
             let words = [p.div0, p.div1];
-            put(out, &words);
-            0
+            put(out, &words)
         }
         TwoStage::ZeroTarget => 6,
         TwoStage::BadMax => 7,

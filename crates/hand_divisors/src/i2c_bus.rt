@@ -22,8 +22,7 @@ pub fn hand_i2c_divisors(input: u32, fast: bool, out: &mut [u32]) -> u64
     match calculate_divisors(input, speed_of(fast)) {
         Divisors::Found(c) => {
             let words = [c.div_a as u32, c.div_b as u32];
-            put(out, &words);
-            0
+            put(out, &words)
         }
         Divisors::SpeedNotAttainable => 10,
     }

@@ -2,4 +2,3 @@
 pub mod divisors;
 pub mod i2c_bus;
 pub mod timer;
-pub mod uart_pairs;

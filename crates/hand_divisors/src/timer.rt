@@ -29,8 +29,7 @@ pub fn hand_ttc(reference: u32, frequency: u32, out: &mut [u32]) -> u64
         Interval::Found(s) => {
             let p = s.prescaler_reg;
             let words = [prescaler_word(p), s.interval_ticks as u32];
-            put(out, &words);
-            0
+            put(out, &words)
         }
         Interval::ZeroTarget => 6,
     }

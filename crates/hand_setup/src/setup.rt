@@ -33,8 +33,7 @@ pub fn hand_cpu_init(pll: u32, six: bool, divisor: u32, out: &mut [u32]) -> u64
     match new_with_cpu_clock_init(pll, ratio_of(six), divisor) {
         CpuSetup::Clocks(s) => {
             let words = [s.cpu_1x_clk, s.cpu_2x_clk, s.cpu_3x2x_clk, s.cpu_6x4x_clk];
-            put(out, &words);
-            0
+            put(out, &words)
         }
         CpuSetup::DivisorZero => carrying(2, 2),
         CpuSetup::BadField => 20,
@@ -51,8 +50,7 @@ pub fn hand_ddr_init(reference: u32, div_3x: u32, div_2x: u32, out: &mut [u32]) 
     match new_with_2x_3x_init(reference, div_3x, div_2x) {
         DdrSetup::Clocks(s) => {
             let words = [s.ddr_3x_clk, s.ddr_2x_clk];
-            put(out, &words);
-            0
+            put(out, &words)
         }
         DdrSetup::DivisorZero => carrying(2, 1),
         DdrSetup::BadField => 20,

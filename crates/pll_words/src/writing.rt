@@ -1,12 +1,15 @@
 // Putting a step into its run's row.
 use crate::numbers::pll_number;
+use handing::no_room;
 use handing::put;
 use pll_sequence::Request;
 use pll_sequence::Step;
-ghost use Prim.Native.Nat.{_≤_};
 ghost use mathlib.Core.Path.{_≡_};
-ghost use mathlib.Core.List.{_++_};
+ghost use mathlib.Core.List.{[], _∷_, _++_};
 ghost use lib.ListN.{length, drop};
+ghost use Rattle.refusals.specs.Number.{NO-ROOM};
+ghost use Rattle.bounds.specs.Within.{Within};
+ghost use Rattle.handing.specs.Handed.{code};
 ghost use Rattle.pll_sequence.specs.Step.{told};
 ghost use Rattle.pll_words.specs.Row.{flag, askedWords, askedNumber, ROOM, stepWords};
 ghost use Rattle.pll_words.specs.Asking.{words};
@@ -62,11 +65,13 @@ pub fn flag(on: bool) -> u32
     if on { 1 } else { 0 }
 }
 
-// The row is written anew, whatever is asked for; the answer is 0, or the refusal's number.
+// The row is written anew, whatever is asked for; the answer is 0, or the refusal's number. A row too short is refused, and is as it was.
 pub fn put_step(step: Step, row: &mut [u32]) -> u64
-    requires { ⌜ ROOM ≤ length (now row) ⌝ }
-    ensures { λ r. ⌜ (r ≡ askedNumber (told (step .request))) × (now (row .exit) ≡ stepWords step ++ drop ROOM (now (row .entry))) ⌝ }
+    ensures { λ r. ⌜ Within ROOM (length (now (row .entry))) ((r ≡ askedNumber (told (step .request))) × (now (row .exit) ≡ stepWords step ++ drop ROOM (now (row .entry)))) ((r ≡ code NO-ROOM (ROOM ∷ [])) × (now (row .exit) ≡ now (row .entry))) ⌝ }
 {
+    if row.len() < 12 {
+        return no_room(12);
+    }
     let request = step.request;
     let asking = asking(request);
     let plan = step.next.plan;

@@ -1,78 +1,28 @@
--- `handing::put` meets its contract: after i turns the first i words are overwritten. Assumes nothing.
-use borrow.Author.Needs.{needs}
-use Prim.Native.Nat.{ℕ, _-_, _≤_, _<_}
-use mathlib.Core.List.{List, _++_}
-use denote.Ref.{now}
-use mathlib.Core.Path.{_≡_, refl, ap, _∙_}
+-- `handing::put` meets its contract on either side of its test. Assumes nothing.
 use native.Mathlib.Omega.{arith}
-use lib.ListN.{length, length-set, drop, set, getD}
-use lib.Seq.{take-length}
-use Rattle.handing.proofs.Over.{over, over-more}
+use mathlib.Core.Path.{refl}
+use Rattle.bounds.proofs.Bound.{kept, past}
+use borrow.Author.Needs.{needs}
 use Rattle.handing.proofs.put.Statement.{statement}
 use Rattle.handing.proofs.put.Tie as tie
 
-abbrev Inv-loop : tie.InvT-loop
-Inv-loop out₀ words i₀ out i = (i ≤ length words) × (length words ≤ length out₀) × (length out ≡ length out₀) × (out ≡ over i words out₀)
+cast-no-room : tie.Need-cast-no-room
+cast-no-room c = search needs
 
-abbrev μ-loop : tie.MeasureT-loop
-μ-loop out₀ words i₀ out i = length words - i
+no-room-requires : tie.Need-no-room-requires
+no-room-requires c κs = search needs
 
-loop-holds : tie.Need-loop-holds Inv-loop μ-loop
-loop-holds c = (search needs, c .pre, refl, refl)
+returns : tie.Need-returns
+returns c = past (omega arith) (c .no-room .ensures, refl)
 
-mul-out : tie.Need-mul-out Inv-loop μ-loop
-mul-out c = search needs
+put-front-requires : tie.Need-put-front-requires
+put-front-requires c κs = search needs
 
-shared-slice-read-out : tie.Need-shared-slice-read-out Inv-loop μ-loop
-shared-slice-read-out c = search needs
+same-length : tie.Need-same-length
+same-length c = search needs
 
-mul-out-2 : tie.Need-mul-out-2 Inv-loop μ-loop
-mul-out-2 c = let h : c .before .before .loop .i < length (c .before .before .before .args .words .now) = omega arith in search needs
-
-slice-write-out : tie.Need-slice-write-out Inv-loop μ-loop
-slice-write-out c = omega arith
-
-add-i : tie.Need-add-i Inv-loop μ-loop
-add-i c = omega arith
-
-loop-less : tie.Need-loop-less Inv-loop μ-loop
-loop-less c = omega arith
-
-loop-again : tie.Need-loop-again Inv-loop μ-loop
-loop-again c =
-    let a = c .before .before .before .args in
-    let l = c .before .before .loop in
-    let i = l .inv in (
-      omega arith,
-      i .1,
-      length-set (l .out) (l .i) (getD (now (a .words)) (l .i) 0) ∙ i .2,
-      ap (λ (row : List ℕ). set row (l .i) (getD (now (a .words)) (l .i) 0)) (i .3) ∙ over-more (l .i) (now (a .words)) (now (a .out)) (omega arith) (omega arith),
-    )
-
-same-length : tie.Need-same-length Inv-loop μ-loop
-same-length c = c .before .loop .inv .2
-
-returns : tie.Need-returns Inv-loop μ-loop
-returns c =
-    let a = c .before .before .args in
-    let all : c .before .loop .i ≡ length (now (a .words)) = omega arith in
-    c .before .loop .inv .3
-    ∙ ap (λ (n : ℕ). over n (now (a .words)) (now (a .out))) all
-    ∙ ap (λ (l : List ℕ). l ++ drop (length (now (a .words))) (now (a .out))) (take-length (now (a .words)))
+returns-2 : tie.Need-returns-2
+returns-2 c = kept (omega arith) (refl, c .before .before .put-front .ensures)
 
 pub put-spec : {M : Type 1} → statement M
-put-spec =
-    tie.close
-    (tie.spec
-    Inv-loop
-    μ-loop
-    loop-holds
-    mul-out
-    shared-slice-read-out
-    mul-out-2
-    slice-write-out
-    add-i
-    loop-less
-    loop-again
-    same-length
-    returns)
+put-spec = tie.close (tie.spec cast-no-room no-room-requires returns put-front-requires same-length returns-2)

@@ -37,7 +37,8 @@ same-length c = search needs
 
 returns-2 : tie.Need-returns-2
 returns-2 c =
-    answers (omega arith) (c .before .before .before .before .before .before .before .before .find-two-stage-divisors .ensures) (ap told (c .before .before .before .before .before .before .p .given .1)) (cc)
+    let put = c .before .before .put .ensures .fits (omega arith) in
+    rw (put .0) (answers (omega arith) (c .before .before .before .before .before .before .before .before .find-two-stage-divisors .ensures) (ap told (c .before .before .before .before .before .before .p .given .1)) (put .1))
 
 returns-3 : tie.Need-returns-3
 returns-3 c =

@@ -43,7 +43,8 @@ same-length c = search needs
 
 returns-2 : tie.Need-returns-2
 returns-2 c =
-    answers (omega arith) (rw (c .before .before .before .before .before .before .before .before .before .before .before .speed-of .ensures) at (c .before .before .before .before .before .before .before .before .before .before .calculate-divisors .ensures)) (ap told (c .before .before .before .before .before .before .before .before .c .given .1)) (cc)
+    let put = c .before .before .put .ensures .fits (omega arith) in
+    rw (put .0) (answers (omega arith) (rw (c .before .before .before .before .before .before .before .before .before .before .before .speed-of .ensures) at (c .before .before .before .before .before .before .before .before .before .before .calculate-divisors .ensures)) (ap told (c .before .before .before .before .before .before .before .before .c .given .1)) (put .1))
 
 returns-3 : tie.Need-returns-3
 returns-3 c =

@@ -38,7 +38,9 @@ same-length : tie.Need-same-length
 same-length c = search needs
 
 returns-2 : tie.Need-returns-2
-returns-2 c = answers (omega arith) (c .before .before .before .before .before .before .before .before .before .before .calc-prescaler-reg-and-interval-ticks .ensures) (ap told (c .before .before .before .before .before .before .before .before .s .given .1)) (cc)
+returns-2 c =
+    let put = c .before .before .put .ensures .fits (omega arith) in
+    rw (put .0) (answers (omega arith) (c .before .before .before .before .before .before .before .before .before .before .calc-prescaler-reg-and-interval-ticks .ensures) (ap told (c .before .before .before .before .before .before .before .before .s .given .1)) (let w = put .1 in cc))
 
 returns-3 : tie.Need-returns-3
 returns-3 c = refuses (omega arith) (c .before .before .calc-prescaler-reg-and-interval-ticks .ensures) (ap told (c .enum-told .given .1))

@@ -40,7 +40,8 @@ same-length c = search needs
 
 returns-2 : tie.Need-returns-2
 returns-2 c =
-    answers (omega arith) (c .before .before .before .before .before .before .before .before .new-with-2x-3x-init .ensures) (ap told-ddr (c .before .before .before .before .before .before .s .given .1)) (cc)
+    let put = c .before .before .put .ensures .fits (omega arith) in
+    rw (put .0) (answers (omega arith) (c .before .before .before .before .before .before .before .before .new-with-2x-3x-init .ensures) (ap told-ddr (c .before .before .before .before .before .before .s .given .1)) (put .1))
 
 returns-3 : tie.Need-returns-3
 returns-3 c =

@@ -40,7 +40,7 @@ same-length : tie.Need-same-length
 same-length c = search needs
 
 returns : tie.Need-returns
-returns c = starts-once (c .before .before .before .before .before .before .before .before .before .before .before .before .before .before .pre) (rw (c .before .before .before .before .before .before .before .before .before .before .before .before .marks-of .ensures) at (c .before .before .before .before .before .before .before .before .before .before .before .configure-pll .ensures)) (ap told (c .before .before .before .before .before .before .before .before .start .given .1)) (c .before .before .before .before .before .before .step .ensures) (cc) (c .before .before .before .before .put-step .ensures .1)
+returns c = starts-once (c .before .before .before .before .before .before .before .before .before .before .before .before .before .before .pre) (rw (c .before .before .before .before .before .before .before .before .before .before .before .before .marks-of .ensures) at (c .before .before .before .before .before .before .before .before .before .before .before .configure-pll .ensures)) (ap told (c .before .before .before .before .before .before .before .before .start .given .1)) (c .before .before .before .before .before .before .step .ensures) (cc) (c .before .before .before .before .put-step .ensures .fits (c .before .before .before .before .before .before .before .before .before .before .before .before .before .before .pre) .1)
 
 returns-2 : tie.Need-returns-2
 returns-2 c = refuses-once (c .before .before .before .before .before .before .pre) (rw (c .before .before .before .before .marks-of .ensures) at (c .before .before .before .configure-pll .ensures)) (ap told (c .enum-told .given .1))

@@ -33,7 +33,7 @@ same-length : tie.Need-same-length
 same-length c = search needs
 
 returns-2 : tie.Need-returns-2
-returns-2 c = stepped (c .before .before .before .before .step .result) (omega arith) (c .before .before .before .before .before .before .before .before .read-run .ensures) (ap told (c .before .before .before .before .before .before .s .given .1)) (c .before .before .before .before .step .ensures) (c .before .before .put-step .ensures .0) (c .before .before .put-step .ensures .1)
+returns-2 c = stepped (c .before .before .before .before .step .result) (omega arith) (c .before .before .before .before .before .before .before .before .read-run .ensures) (ap told (c .before .before .before .before .before .before .s .given .1)) (c .before .before .before .before .step .ensures) (c .before .before .put-step .ensures .fits (omega arith) .0) (c .before .before .put-step .ensures .fits (omega arith) .1)
 
 same-length-2 : tie.Need-same-length-2
 same-length-2 c = search needs

@@ -31,7 +31,7 @@ same-length : tie.Need-same-length
 same-length c = search needs
 
 returns : tie.Need-returns
-returns c = starts (c .before .before .before .before .before .before .before .before .before .before .pre) (c .before .before .before .before .before .before .before .before .configure-pll-unchecked .ensures) (ap told (c .before .before .before .before .before .before .s .given .1)) (c .before .before .before .before .step .ensures) (c .before .before .put-step .ensures .1)
+returns c = starts (c .before .before .before .before .before .before .before .before .before .before .pre) (c .before .before .before .before .before .before .before .before .configure-pll-unchecked .ensures) (ap told (c .before .before .before .before .before .before .s .given .1)) (c .before .before .before .before .step .ensures) (c .before .before .put-step .ensures .fits (c .before .before .before .before .before .before .before .before .before .before .pre) .1)
 
 returns-2 : tie.Need-returns-2
 returns-2 c = refuses (c .before .before .before .before .pre) (c .before .before .configure-pll-unchecked .ensures) (ap told (c .enum-told .given .1))

@@ -1,0 +1,36 @@
+// The UART's list of viable pairs, written into records that the caller lends.
+use uart_candidate::BaudDivisors;
+use uart_list::excess;
+use uart_list::record_at;
+use uart_list::start;
+ghost use Rattle.hand_uart.specs.Listed.{Coded, ListHanded};
+
+// What the call says: how many were written or, where some number of them is too many, refusal 9 and that number.
+fn list_code(written: usize, too_many: usize) -> u64
+    ensures { λ r. ⌜ Coded written «too_many» r ⌝ }
+{
+    if too_many == 0 {
+        written as u64 % 0x1_0000_0000 * 0x1_0000_0000
+    } else {
+        too_many as u64 % 0x1_0000_0000 * 0x1_0000_0000 + 9
+    }
+}
+
+// As many records as there are viable pairs: `cd`, `bdiv` and `error` as BaudDivisors has them. Each is written once, and none before
+// it is known that there is room for all.
+pub fn hand_uart_list(reference: u32, baud: u32, records: &mut [BaudDivisors]) -> u64
+    ensures { λ r. ⌜ ListHanded reference baud (now (records .entry)) r (now (records .exit)) ⌝ }
+{
+    let too_many = excess(reference, baud, records.len());
+    let mut n: usize = 0;
+    let mut bdiv = start(too_many);
+    while bdiv <= uart_candidate::LAST {
+        let pair = record_at(reference, baud, bdiv);
+        if pair.cd != 0 {
+            records[n] = pair;
+            n += 1;
+        }
+        bdiv += 1;
+    }
+    list_code(n, too_many)
+}
