@@ -1,7 +1,7 @@
 // The accesses of a run as text, and its end.
 use desk_answers::put_refusal;
-use pll_run::End;
-use pll_run::Ran;
+use pll_measure::End;
+use pll_measure::Ran;
 use text::put_byte;
 use text::put_bytes;
 use text::put_decimal;
