@@ -10,7 +10,7 @@ use Rattle.pll_measure.proofs.measure.Statement.{statement}
 use Rattle.pll_measure.proofs.measure.Tie as tie
 
 abbrev Inv-loop : tie.InvT-loop
-Inv-loop word words host₀ count₀ host count = Counting words host₀ host count
+Inv-loop word words host₀ count₀ host count = Counting words (record { sequence = host₀ .sequence; word = word; used = 0 }) host count
 
 abbrev μ-loop : tie.MeasureT-loop
 μ-loop word words host₀ count₀ host count = length (left words host .accesses)
