@@ -50,8 +50,8 @@ taken (suc k) (x ∷ l) = ap (λ (t : List ℕ). x ∷ t) (taken k l)
 pub kept-bytes : (input : List ℕ) (from to : ℕ) {past n : ℕ} → past ≡ to - length input → n ≡ to - past - from → n ≡ length (part input from to)
 kept-bytes input from to e f = omega (arith, length-take (to - from) (drop from input), length-drop from input)
 
-pub kept-within : (input : List ℕ) (from to : ℕ) → length (part input from to) ≤ length input
-kept-within input from to = omega (arith, length-take (to - from) (drop from input), length-drop from input)
+pub kept-within : (input : List ℕ) (from to : ℕ) {n : ℕ} → n ≡ length (part input from to) → n ≤ length input
+kept-within input from to e = omega (arith, length-take (to - from) (drop from input), length-drop from input)
 
 pub all : {input : List ℕ} {from n : ℕ} {now : List ℕ} {i : ℕ} (to : ℕ) → Kept input from n now i → n ≤ i → n ≡ length (part input from to) → Moved input from to now n
 all {input} {from} {n} {now} {i} to k h e =

@@ -10,9 +10,9 @@ use Rattle.refusals.specs.Told.{Told, answered, refused}
 use Rattle.pll_rows.specs.Sequence.{Access, Ending, locked, timed-out, starved, Log}
 use Rattle.pll_sequence.specs.declared.PllSequence.{PllSequence}
 use Rattle.pll_sequence.specs.Runs.{ahead-of}
-use Rattle.pll_run.specs.declared.End.{End}
-use Rattle.pll_run.specs.declared.End.the-variants as End
-use Rattle.pll_run.specs.declared.Ran.{Ran}
+use Rattle.pll_measure.specs.declared.End.{End}
+use Rattle.pll_measure.specs.declared.End.the-variants as End
+use Rattle.pll_measure.specs.declared.Ran.{Ran}
 use Rattle.pll_run.specs.Record.{Rows, rows, Room, Short, over, written, ending, told-end, told, Recorded, no-room, recorded}
 use Rattle.desk_answers.specs.Answers.{Said}
 use Rattle.desk_sequence.specs.Printed.{zip, shown, ended, endText, printed}

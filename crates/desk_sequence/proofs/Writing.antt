@@ -12,8 +12,8 @@ use Rattle.text.specs.Digits.{decimal, hex}
 use Rattle.text.specs.Put.{Wrote, Put}
 use Rattle.text.proofs.Spelling.{decimal-short, length-hex}
 use Rattle.text.proofs.Writing.{as-long, nothing, then, more}
-use Rattle.pll_run.specs.declared.End.{End}
-use Rattle.pll_run.specs.declared.End.the-variants as End
+use Rattle.pll_measure.specs.declared.End.{End}
+use Rattle.pll_measure.specs.declared.End.the-variants as End
 use Rattle.desk_answers.specs.Answers.{Said}
 use Rattle.desk_sequence.specs.Printed.{letter, access, zip, shown, endText}
 

@@ -7,8 +7,8 @@ use Rattle.text.specs.Bytes.{bytes}
 use Rattle.text.specs.Digits.{decimal, hex}
 use Rattle.desk_answers.specs.Answers.{refusal}
 use Rattle.pll_rows.specs.Sequence.{Access, Ending, locked, timed-out, starved, Log}
-use Rattle.pll_run.specs.declared.End.{End}
-use Rattle.pll_run.specs.declared.End.the-variants as End
+use Rattle.pll_measure.specs.declared.End.{End}
+use Rattle.pll_measure.specs.declared.End.the-variants as End
 
 -- kind 0 is a read and 1 a write
 abbrev pub letter : ℕ → List ℕ

@@ -4,8 +4,8 @@ mod request;
 mod returned;
 
 use desk_answers::put_refusal;
-use pll_run::End;
-use pll_run::Ran;
+use pll_measure::End;
+use pll_measure::Ran;
 pub use request::answer_pll_seq;
 use text::put_byte;
 use text::put_bytes;

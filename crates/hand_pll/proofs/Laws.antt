@@ -12,7 +12,7 @@ use Rattle.pll_sequence.specs.declared.PllSequence.{PllSequence}
 use Rattle.pll_sequence.specs.Runs.{ahead-of}
 use Rattle.pll_sequence.proofs.Bound.{at-most-ahead}
 use Rattle.pll_start.specs.Start.{Starts, bad-limit, bad-field, starts, begun}
-use Rattle.pll_run.specs.declared.Ran.{Ran}
+use Rattle.pll_measure.specs.declared.Ran.{Ran}
 use Rattle.pll_run.specs.Record.{Rows, Recorded, no-room, recorded, told}
 use Rattle.hand_pll.specs.Ran.{ranCode, PlanRan, not-started, ran}
 

@@ -11,9 +11,9 @@ use Rattle.pll_settings.specs.declared.PllConfig.{PllConfig}
 use Rattle.pll_rows.specs.declared.PllPlan.{PllPlan}
 use Rattle.pll_rows.specs.Sequence.{accesses-of}
 use Rattle.pll_start.specs.Start.{Starts, begun}
-use Rattle.pll_run.specs.declared.End.{End}
-use Rattle.pll_run.specs.declared.End.the-variants.{Locked, LockTimeout, Starved, NoRoom}
-use Rattle.pll_run.specs.declared.Ran.{Ran}
+use Rattle.pll_measure.specs.declared.End.{End}
+use Rattle.pll_measure.specs.declared.End.the-variants.{Locked, LockTimeout, Starved, NoRoom}
+use Rattle.pll_measure.specs.declared.Ran.{Ran}
 use Rattle.pll_run.specs.Record.{Rows, Recorded, told}
 use Rattle.pll_words.specs.Row.{pllNumber}
 

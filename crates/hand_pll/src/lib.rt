@@ -1,8 +1,8 @@
 // A whole run of the PLL sequence over the words that a host would return, handed back as a number and three rows.
 use handing::carrying;
+use pll_measure::End;
+use pll_measure::Ran;
 use pll_rows::PllPlan;
-use pll_run::End;
-use pll_run::Ran;
 use pll_run::run;
 use pll_settings::PllConfig;
 use pll_start::Start;

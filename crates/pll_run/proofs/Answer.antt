@@ -12,10 +12,10 @@ use Rattle.pll_rows.specs.Sequence.{Log, Ending}
 use Rattle.pll_sequence.specs.declared.PllSequence.{PllSequence}
 use Rattle.pll_sequence.specs.Runs.{ahead-of}
 use Rattle.pll_sequence.proofs.Bound.{few-ahead}
-use Rattle.pll_run.specs.declared.End.{End}
-use Rattle.pll_run.specs.declared.End.the-variants.{Locked, LockTimeout, Starved, NoRoom}
-use Rattle.pll_run.specs.declared.Ran.{Ran}
-use Rattle.pll_run.specs.Host.{IsEnd, Measured}
+use Rattle.pll_measure.specs.declared.End.{End}
+use Rattle.pll_measure.specs.declared.End.the-variants.{Locked, LockTimeout, Starved, NoRoom}
+use Rattle.pll_measure.specs.declared.Ran.{Ran}
+use Rattle.pll_measure.specs.Host.{IsEnd, Measured}
 use Rattle.pll_run.specs.Spot.{Finished}
 use Rattle.pll_run.specs.Record.{Rows, rows, Room, Short, Fit, ending, told-end, told, Recorded, no-room, recorded}
 

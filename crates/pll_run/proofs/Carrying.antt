@@ -6,10 +6,10 @@ use mathlib.Core.List.{List}
 use lib.ListN.{length, set, length-set}
 use Rattle.pll_rows.specs.declared.PllPlan.{PllPlan}
 use Rattle.pll_rows.specs.Sequence.{Log, Access, Ending, after, ends}
-use Rattle.pll_run.specs.declared.End.{End}
-use Rattle.pll_run.specs.declared.recording.Spot.{Spot}
-use Rattle.pll_run.specs.declared.recording.Went.the-variants.{On, Over}
-use Rattle.pll_run.specs.Host.{IsEnd}
+use Rattle.pll_measure.specs.declared.End.{End}
+use Rattle.pll_measure.specs.Host.{IsEnd}
+use Rattle.pll_run.specs.declared.Spot.{Spot}
+use Rattle.pll_run.specs.declared.Went.the-variants.{On, Over}
 use Rattle.pll_run.specs.Record.{Rows, Room}
 use Rattle.pll_run.specs.Spot.{to-come, stored, Enough, Recording, Carries}
 use Rattle.pll_run.proofs.Due.{spot}

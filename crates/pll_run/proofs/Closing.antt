@@ -9,9 +9,9 @@ use Rattle.registers.specs.Fields.{BYPASS-FORCE}
 use Rattle.registers.specs.Plls.{pll-ctrl}
 use Rattle.pll_rows.specs.declared.PllPlan.{PllPlan}
 use Rattle.pll_rows.specs.Sequence.{Log, locked, a-read, a-write, ends}
-use Rattle.pll_run.specs.declared.End.the-variants.{Locked, Starved}
-use Rattle.pll_run.specs.declared.recording.Spot.{Spot}
-use Rattle.pll_run.specs.declared.recording.Went.the-variants.{Over}
+use Rattle.pll_measure.specs.declared.End.the-variants.{Locked, Starved}
+use Rattle.pll_run.specs.declared.Spot.{Spot}
+use Rattle.pll_run.specs.declared.Went.the-variants.{Over}
 use Rattle.pll_run.specs.Record.{Rows, Room}
 use Rattle.pll_run.specs.Spot.{to-come, stored, Enough, Carries}
 use Rattle.pll_run.proofs.Carrying.{Carrying, start, room, put, finish, some, moved, enough-at, recorded-at}

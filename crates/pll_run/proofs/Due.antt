@@ -18,7 +18,7 @@ use Rattle.pll_rows.specs.declared.Due.the-variants.{Read, Write, Poll, End}
 use Rattle.pll_rows.specs.declared.PllPlan.{PllPlan}
 use Rattle.pll_rows.specs.Due.{IsDue}
 use Rattle.pll_rows.specs.Sequence.{Row, read, write, poll, Log, locked, timed-out, starved, a-read, a-write, after, ends, seen, log, sequence}
-use Rattle.pll_run.specs.declared.recording.Spot.{Spot}
+use Rattle.pll_run.specs.declared.Spot.{Spot}
 use Rattle.pll_run.specs.Spot.{to-come}
 
 abbrev pub spot : ℕ → ℕ → ℕ → ℕ → ℕ → Spot

@@ -2,9 +2,7 @@ pub mod Answer
 pub mod Carrying
 pub mod Closing
 pub mod Column
-pub mod Counting
 pub mod Due
 pub mod Parts
 pub mod Stored
-pub mod Turns
 pub mod Unique

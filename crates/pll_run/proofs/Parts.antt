@@ -3,10 +3,10 @@ use Prim.Native.Nat.{ℕ}
 use mathlib.Core.Path.{_≡_, subst}
 use mathlib.Core.List.{List}
 use Rattle.pll_rows.specs.declared.PllPlan.{PllPlan}
-use Rattle.pll_run.specs.declared.End.{End}
-use Rattle.pll_run.specs.declared.recording.Spot.{Spot}
-use Rattle.pll_run.specs.declared.recording.Went.{Went}
-use Rattle.pll_run.specs.declared.recording.Went.the-variants.{On, Over}
+use Rattle.pll_measure.specs.declared.End.{End}
+use Rattle.pll_run.specs.declared.Spot.{Spot}
+use Rattle.pll_run.specs.declared.Went.{Went}
+use Rattle.pll_run.specs.declared.Went.the-variants.{On, Over}
 use Rattle.pll_run.specs.Record.{Rows}
 use Rattle.pll_run.specs.Spot.{to-come, Recording, Finished, Carries, Reaches}
 

@@ -7,10 +7,10 @@ use lib.ListN.{length, set, length-append}
 use lib.Seq.{append-snoc}
 use Rattle.pll_rows.specs.declared.PllPlan.{PllPlan}
 use Rattle.pll_rows.specs.Sequence.{Log, Access, Ending, after, ends}
-use Rattle.pll_run.specs.declared.End.{End}
-use Rattle.pll_run.specs.declared.Ran.{Ran}
-use Rattle.pll_run.specs.declared.recording.Spot.{Spot}
-use Rattle.pll_run.specs.Host.{IsEnd}
+use Rattle.pll_measure.specs.declared.End.{End}
+use Rattle.pll_measure.specs.declared.Ran.{Ran}
+use Rattle.pll_measure.specs.Host.{IsEnd}
+use Rattle.pll_run.specs.declared.Spot.{Spot}
 use Rattle.pll_run.specs.Record.{Rows, rows, Room, over, written}
 use Rattle.pll_run.specs.Spot.{to-come, stored, Enough, Recording, Finished}
 use Rattle.pll_run.proofs.Column.{column-length, column-more}

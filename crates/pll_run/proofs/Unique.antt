@@ -8,9 +8,9 @@ use lib.Dec.{eqb}
 use Rattle.refusals.specs.Told.{Told, answered, refused}
 use Rattle.refusals.specs.Number.{LOCK-TIMEOUT}
 use Rattle.pll_rows.specs.Sequence.{Log, Ending, locked, timed-out, starved}
-use Rattle.pll_run.specs.declared.End.{End}
-use Rattle.pll_run.specs.declared.End.the-variants.{Locked, LockTimeout, Starved, NoRoom}
-use Rattle.pll_run.specs.declared.Ran.{Ran}
+use Rattle.pll_measure.specs.declared.End.{End}
+use Rattle.pll_measure.specs.declared.End.the-variants.{Locked, LockTimeout, Starved, NoRoom}
+use Rattle.pll_measure.specs.declared.Ran.{Ran}
 use Rattle.pll_run.specs.Record.{Rows, Room, Short, told-end, told, Recorded, no-room, recorded}
 
 not-both : {n : ℕ} {r : Rows} → Short n r → Room n r → ⊥

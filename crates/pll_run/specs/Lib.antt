@@ -1,3 +1,2 @@
-pub mod Host
 pub mod Record
 pub mod Spot

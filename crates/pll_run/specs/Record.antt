@@ -8,9 +8,9 @@ use lib.ListN.{length, drop}
 use Rattle.refusals.specs.Told.{Told, answered, refused}
 use Rattle.refusals.specs.Number.{NO-ROOM, LOCK-TIMEOUT}
 use Rattle.pll_rows.specs.Sequence.{Access, Ending, locked, timed-out, starved, Log}
-use Rattle.pll_run.specs.declared.End.{End}
-use Rattle.pll_run.specs.declared.End.the-variants.{Locked, LockTimeout, Starved, NoRoom}
-use Rattle.pll_run.specs.declared.Ran.{Ran}
+use Rattle.pll_measure.specs.declared.End.{End}
+use Rattle.pll_measure.specs.declared.End.the-variants.{Locked, LockTimeout, Starved, NoRoom}
+use Rattle.pll_measure.specs.declared.Ran.{Ran}
 
 pub record Rows : Type 0 where
   pub kinds : List ℕ

@@ -5,11 +5,11 @@ use mathlib.Core.List.{List, _++_}
 use lib.ListN.{length, drop, set}
 use Rattle.pll_rows.specs.declared.PllPlan.{PllPlan}
 use Rattle.pll_rows.specs.Sequence.{Access, Log, log, sequence}
-use Rattle.pll_run.specs.declared.Ran.{Ran}
-use Rattle.pll_run.specs.declared.recording.Spot.{Spot}
-use Rattle.pll_run.specs.declared.recording.Went.{Went}
-use Rattle.pll_run.specs.declared.recording.Went.the-variants.{On, Over}
-use Rattle.pll_run.specs.Host.{Measured}
+use Rattle.pll_measure.specs.declared.Ran.{Ran}
+use Rattle.pll_measure.specs.Host.{Measured}
+use Rattle.pll_run.specs.declared.Spot.{Spot}
+use Rattle.pll_run.specs.declared.Went.{Went}
+use Rattle.pll_run.specs.declared.Went.the-variants.{On, Over}
 use Rattle.pll_run.specs.Record.{Rows, rows, written, Room}
 
 -- all that is still to come

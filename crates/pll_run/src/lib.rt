@@ -1,154 +1,199 @@
-// A run of the PLL sequence over the words that a host would return: the sequence without a device.
-mod recording;
+// A run of the PLL sequence over the words that a host would return: the sequence without a device. Its accesses are recorded row by row
+// of the sequence into three lent rows. The rows before the polls are gone through by a loop of a fixed length, which the compiler
+// unrolls; a loop over all rows, or over steps, is not.
+mod whole;
 
-use pll_sequence::PllSequence;
-use pll_sequence::Request;
-use pll_sequence::received;
-use recording::record;
+use fields::set_field;
+use pll_measure::End;
+use pll_measure::Ran;
+use pll_rows::Due;
+use pll_rows::PllPlan;
+use pll_rows::locked;
+use pll_rows::pll_ctrl;
+use pll_rows::row;
+use pll_sequence::Place;
+pub use whole::run;
 ghost use mathlib.Core.Path.{_≡_};
-ghost use Rattle.pll_sequence.specs.Runs.{ahead-of};
-ghost use Rattle.pll_run.specs.declared.Turn.the-variants.{Did};
-ghost use Rattle.pll_run.specs.Host.{left, Turned, Measured};
-ghost use Rattle.pll_run.specs.Record.{rows, Fit, told, Recorded};
+ghost use Prim.Native.Nat.{_+_, _≤_};
+ghost use lib.ListN.{length};
+ghost use Rattle.pll_rows.specs.Sequence.{sequence};
+ghost use Rattle.pll_sequence.specs.Runs.{ahead};
+ghost use Rattle.pll_run.specs.Record.{rows, Room};
+ghost use Rattle.pll_run.specs.declared.Went.the-variants.{Over};
+ghost use Rattle.pll_run.specs.Spot.{stored, Enough, Reaches, Carries, Finished};
 
-// How a run ends. Starved: the words ran out. NoRoom: there are more accesses than a lent row holds.
-pub enum End {
-    Locked,
-    LockTimeout,
-    Starved,
-    NoRoom,
+// Where a run stands: its place, how many words the host has returned, how many accesses are recorded.
+struct Spot {
+    at: u8,
+    polls: u16,
+    word: u32,
+    used: usize,
+    count: usize,
 }
 
-pub struct Ran {
-    pub count: usize,
-    pub end: End,
+// The run goes on, or it is over: so many accesses, and the end.
+enum Went {
+    On(Spot),
+    Over(usize, End),
 }
 
-// Kind 0 is a read and 1 a write; the value of a read is the word that the host returned.
-struct Access {
+// Records an access: kind 0 is a read and 1 a write.
+fn put(
     kind: u32,
     number: u32,
     value: u32,
-}
-
-// A host that returns the words of a slice, `used` of which it has returned; `word` is the one that it hands to the next step.
-struct Host {
-    sequence: PllSequence,
-    word: u32,
-    used: usize,
-}
-
-enum Turn {
-    Did(Access, Host),
-    Over(End),
-}
-
-// An access is done, and its value is the word that the next step takes.
-fn did(kind: u32, number: u32, value: u32, sequence: PllSequence, used: usize) -> Turn
-    ensures { λ r. ⌜ r ≡ Did (record { kind = kind; number = number; value = value }) (record { sequence = sequence; word = value; used = used }) ⌝ }
+    at: usize,
+    kinds: &mut [u32],
+    numbers: &mut [u32],
+    values: &mut [u32],
+)
+    requires { ⌜ Room (at + 1) (rows (now kinds) (now numbers) (now values)) ⌝ }
+    ensures { λ _. ⌜ (rows (now (kinds .exit)) (now (numbers .exit)) (now (values .exit))) ≡ stored at (record { kind = kind; number = number; value = value }) (rows (now (kinds .entry)) (now (numbers .entry)) (now (values .entry))) ⌝ }
 {
-    let access = Access {
-        kind,
-        number,
-        value,
-    };
-    let next = Host {
-        sequence,
-        word: value,
-        used,
-    };
-    Turn::Did(access, next)
+    kinds[at] = kind;
+    numbers[at] = number;
+    values[at] = value;
 }
 
-// One step, and what it asks for done.
-fn host_step(host: Host, words: &[u32]) -> Turn
-    ensures { λ r. ⌜ Turned (now (words .entry)) host r ⌝ }
+// The rows before the polls.
+fn record_opening(
+    plan: PllPlan,
+    from: Spot,
+    words: &[u32],
+    kinds: &mut [u32],
+    numbers: &mut [u32],
+    values: &mut [u32],
+) -> Went
+    requires { ⌜ (from .at ≤ 9) × Enough plan (now words) from (rows (now kinds) (now numbers) (now values)) ⌝ }
+    ensures { λ r. ⌜ Reaches 9 r × Carries plan (now (words .entry)) from (rows (now (kinds .entry)) (now (numbers .entry)) (now (values .entry))) (rows (now (kinds .exit)) (now (numbers .exit)) (now (values .exit))) r ⌝ }
 {
-    let sequence = host.sequence;
-    let used = host.used;
-    let step = sequence.step(host.word);
-    let sequence = step.next;
-    let request = step.request;
-    match request {
-        Request::Read(number) => {
-            if used >= words.len() {
-                return Turn::Over(End::Starved);
+    let mut s = from;
+    while s.at < 9 {
+        match row(plan, s.at, s.word) {
+            Due::Read(number) => {
+                let used = s.used;
+                if used >= words.len() {
+                    return Went::Over(s.count, End::Starved);
+                }
+                s.word = words[used];
+                put(0, number, s.word, s.count, kinds, numbers, values);
+                s.used += 1;
+                s.at += 1;
+                s.count += 1;
             }
-            did(0, number, words[used], sequence, used + 1)
-        }
-        Request::Write(number, value) => did(1, number, value, sequence, used),
-        Request::Locked => Turn::Over(End::Locked),
-        Request::LockTimeout => Turn::Over(End::LockTimeout),
-    }
-}
-
-// How many accesses there are, and the end.
-fn measure(host: Host, words: &[u32]) -> Ran
-    ensures { λ r. ⌜ Measured (left (now (words .entry)) host) r ⌝ }
-{
-    let mut host = host;
-    let mut count: usize = 0;
-    loop {
-        match host_step(host, words) {
-            Turn::Did(_, next) => {
-                host = next;
-                count += 1;
+            Due::Write(number, value) => {
+                s.word = value;
+                put(1, number, value, s.count, kinds, numbers, values);
+                s.at += 1;
+                s.count += 1;
             }
-            Turn::Over(end) => return Ran { count, end },
+            Due::Poll(_) => break,
+            Due::End => break,
         }
     }
+    Went::On(s)
 }
 
-// So many records fit into rows of these lengths.
-fn fits(count: usize, kinds: usize, numbers: usize, values: usize) -> bool
-    ensures { λ r. ⌜ Fit count kinds numbers values r ⌝ }
+// The polls, up to the one that shows the lock.
+fn record_polls(
+    plan: PllPlan,
+    from: Spot,
+    words: &[u32],
+    kinds: &mut [u32],
+    numbers: &mut [u32],
+    values: &mut [u32],
+) -> Went
+    requires { ⌜ (from .at ≡ 9) × Enough plan (now words) from (rows (now kinds) (now numbers) (now values)) ⌝ }
+    ensures { λ r. ⌜ Reaches 10 r × Carries plan (now (words .entry)) from (rows (now (kinds .entry)) (now (numbers .entry)) (now (values .entry))) (rows (now (kinds .exit)) (now (numbers .exit)) (now (values .exit))) r ⌝ }
 {
-    if kinds < count {
-        return false;
+    let status = registers::PLL_STATUS as u32;
+    let mut s = from;
+    while s.polls > 0 {
+        let used = s.used;
+        if used >= words.len() {
+            return Went::Over(s.count, End::Starved);
+        }
+        s.word = words[used];
+        put(0, status, s.word, s.count, kinds, numbers, values);
+        s.polls -= 1;
+        s.used += 1;
+        s.count += 1;
+        let pll = plan.pll;
+        if locked(pll, s.word) {
+            s.at = 10;
+            return Went::On(s);
+        }
     }
-    if numbers < count {
-        return false;
-    }
-    if values < count {
-        return false;
-    }
-    true
+    Went::Over(s.count, End::LockTimeout)
 }
 
-// Runs a sequence from a state, with the word that its first step takes, over the words that the host would return. The accesses go
-// into three lent rows, and the answer is how many there are and the end. They are reads, one a word, and at most six writes: only
-// where so many might not fit are they counted first.
-pub fn run(
-    sequence: PllSequence,
-    word: u32,
+// The two rows after the polls.
+fn record_closing(
+    plan: PllPlan,
+    from: Spot,
     words: &[u32],
     kinds: &mut [u32],
     numbers: &mut [u32],
     values: &mut [u32],
 ) -> Ran
-    ensures { λ r. ⌜ Recorded (ahead-of sequence word (now (words .entry))) (rows (now (kinds .entry)) (now (numbers .entry)) (now (values .entry))) (rows (now (kinds .exit)) (now (numbers .exit)) (now (values .exit))) (r .count) (told r) ⌝ }
+    requires { ⌜ (10 ≤ from .at) × Enough plan (now words) from (rows (now kinds) (now numbers) (now values)) ⌝ }
+    ensures { λ r. ⌜ Carries plan (now (words .entry)) from (rows (now (kinds .entry)) (now (numbers .entry)) (now (values .entry))) (rows (now (kinds .exit)) (now (numbers .exit)) (now (values .exit))) (Over (r .count) (r .end)) ⌝ }
 {
-    if !fits(words.len() + 6, kinds.len(), numbers.len(), values.len()) {
-        let host = Host {
-            sequence,
-            word,
-            used: 0,
-        };
-        let ran = measure(host, words);
-        let count = ran.count;
-        if !fits(count, kinds.len(), numbers.len(), values.len()) {
-            let end = End::NoRoom;
-            return Ran { count, end };
-        }
+    let pll = plan.pll;
+    let ctrl = pll_ctrl(pll);
+    let at = from.at;
+    let used = from.used;
+    let count = from.count;
+    let end = End::Locked;
+    if at >= 12 {
+        return Ran { count, end };
     }
-    let plan = sequence.plan;
-    let place = sequence.place;
-    record(
-        plan,
-        received(plan, place, word),
-        words,
-        kinds,
-        numbers,
-        values,
-    )
+    if at == 11 {
+        let value = set_field(from.word, registers::BYPASS_FORCE, 0);
+        put(1, ctrl, value, count, kinds, numbers, values);
+        let count = count + 1;
+        return Ran { count, end };
+    }
+    if used >= words.len() {
+        let end = End::Starved;
+        return Ran { count, end };
+    }
+    let word = words[used];
+    put(0, ctrl, word, count, kinds, numbers, values);
+    let value = set_field(word, registers::BYPASS_FORCE, 0);
+    put(1, ctrl, value, count + 1, kinds, numbers, values);
+    let count = count + 2;
+    Ran { count, end }
+}
+
+// From a place on, over words of which none is used up, into rows that have room.
+fn record(
+    plan: PllPlan,
+    place: Place,
+    words: &[u32],
+    kinds: &mut [u32],
+    numbers: &mut [u32],
+    values: &mut [u32],
+) -> Ran
+    requires { ⌜ Room (length (ahead (sequence plan) place (now words) .accesses)) (rows (now kinds) (now numbers) (now values)) ⌝ }
+    ensures { λ r. ⌜ Finished (ahead (sequence plan) place (now (words .entry))) (rows (now (kinds .entry)) (now (numbers .entry)) (now (values .entry))) (rows (now (kinds .exit)) (now (numbers .exit)) (now (values .exit))) r ⌝ }
+{
+    let at = place.at;
+    let spot = Spot {
+        at,
+        polls: place.polls,
+        word: place.word,
+        used: 0,
+        count: 0,
+    };
+    if at >= 10 {
+        return record_closing(plan, spot, words, kinds, numbers, values);
+    }
+    match record_opening(plan, spot, words, kinds, numbers, values) {
+        Went::On(polled) => match record_polls(plan, polled, words, kinds, numbers, values) {
+            Went::On(last) => record_closing(plan, last, words, kinds, numbers, values),
+            Went::Over(count, end) => Ran { count, end },
+        },
+        Went::Over(count, end) => Ran { count, end },
+    }
 }

@@ -56,7 +56,7 @@ same-length-5 : tie.Need-same-length-5
 same-length-5 c = search needs
 
 returns-3 : tie.Need-returns-3
-returns-3 c = omega (arith, c .before .before .keep .ensures .0, kept-within _ _ _)
+returns-3 c = omega (arith, kept-within _ _ _ (c .before .before .keep .ensures .0))
 
 pub turn-spec : {M : Type 1} → statement M
 turn-spec =

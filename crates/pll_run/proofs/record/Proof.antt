@@ -10,8 +10,8 @@ use Rattle.pll_run.proofs.Due.{spot}
 use Rattle.pll_run.proofs.Parts.{goes-on, is-over}
 use Rattle.pll_run.proofs.Stored.{start, enough, kinds-kept, numbers-kept, values-kept}
 use borrow.Author.Needs.{needs}
-use Rattle.pll_run.proofs.recording.record.Statement.{statement}
-use Rattle.pll_run.proofs.recording.record.Tie as tie
+use Rattle.pll_run.proofs.record.Statement.{statement}
+use Rattle.pll_run.proofs.record.Tie as tie
 
 record-closing-requires : tie.Need-record-closing-requires
 record-closing-requires c κs = search needs

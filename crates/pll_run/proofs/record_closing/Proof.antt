@@ -3,8 +3,8 @@ use native.Mathlib.Omega.{arith}
 use denote.Ref.{now}
 use Rattle.pll_run.proofs.Closing.{closed, room-for-write, writes, starves, room-for-read, room-for-both, two-fit, reads-and-writes}
 use borrow.Author.Needs.{needs}
-use Rattle.pll_run.proofs.recording.record_closing.Statement.{statement}
-use Rattle.pll_run.proofs.recording.record_closing.Tie as tie
+use Rattle.pll_run.proofs.record_closing.Statement.{statement}
+use Rattle.pll_run.proofs.record_closing.Tie as tie
 
 pll-ctrl-requires : tie.Need-pll-ctrl-requires
 pll-ctrl-requires c κs = search needs

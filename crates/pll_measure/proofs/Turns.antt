@@ -11,10 +11,10 @@ use Rattle.pll_sequence.specs.declared.Step.{Step}
 use Rattle.pll_sequence.specs.Step.{Steps}
 use Rattle.pll_sequence.specs.Runs.{ahead-of}
 use Rattle.pll_sequence.proofs.Stepped.{on-read, on-no-word, on-write, on-locked, on-timeout}
-use Rattle.pll_run.specs.declared.End.the-variants as ends-of
-use Rattle.pll_run.specs.declared.Host.{Host}
-use Rattle.pll_run.specs.declared.Turn.the-variants.{Did, Over}
-use Rattle.pll_run.specs.Host.{left, Turned}
+use Rattle.pll_measure.specs.declared.End.the-variants as ends-of
+use Rattle.pll_measure.specs.declared.Host.{Host}
+use Rattle.pll_measure.specs.declared.Turn.the-variants.{Did, Over}
+use Rattle.pll_measure.specs.Host.{left, Turned}
 
 module _ (words : List ℕ) (h : Host) {r : Step} (st : Steps (h .sequence) (h .word) r) where
   -- the words that are left begin with the next one

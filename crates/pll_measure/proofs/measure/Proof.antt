@@ -1,19 +1,19 @@
--- `pll_run::measure` meets its contract. Assumes nothing.
+-- `pll_measure::measure` meets its contract. Assumes nothing.
 use Prim.Native.Nat.{ℕ}
 use mathlib.Core.Path.{subst}
 use native.Mathlib.Omega.{arith}
 use lib.ListN.{length}
 use borrow.Author.Needs.{needs}
-use Rattle.pll_run.specs.Host.{left, Turned}
-use Rattle.pll_run.proofs.Counting.{Counting, start, less, fits, more, done}
-use Rattle.pll_run.proofs.measure.Statement.{statement}
-use Rattle.pll_run.proofs.measure.Tie as tie
+use Rattle.pll_measure.specs.Host.{left, Turned}
+use Rattle.pll_measure.proofs.Counting.{Counting, start, less, fits, more, done}
+use Rattle.pll_measure.proofs.measure.Statement.{statement}
+use Rattle.pll_measure.proofs.measure.Tie as tie
 
 abbrev Inv-loop : tie.InvT-loop
-Inv-loop words host₀ count₀ host count = Counting words host₀ host count
+Inv-loop word words host₀ count₀ host count = Counting words (record { sequence = host₀ .sequence; word = word; used = 0 }) host count
 
 abbrev μ-loop : tie.MeasureT-loop
-μ-loop words host₀ count₀ host count = length (left words host .accesses)
+μ-loop word words host₀ count₀ host count = length (left words host .accesses)
 
 loop-holds : tie.Need-loop-holds Inv-loop μ-loop
 loop-holds c = start _ (omega arith)

@@ -5,13 +5,13 @@ use mathlib.Core.Path.{_≡_, refl, sym, _∙_}
 use mathlib.Core.List.{List}
 use denote.Ref.{now}
 use lib.ListN.{getD}
-use Rattle.pll_run.specs.declared.recording.Spot.{Spot}
+use Rattle.pll_run.specs.declared.Spot.{Spot}
 use Rattle.pll_run.specs.Record.{Rows, rows}
 use Rattle.pll_run.proofs.Carrying.{Carrying, start, room, put, finish, polling, enough-polling, at-the-polls}
 use Rattle.pll_run.proofs.Due.{spot, shows-lock, shows-none, some-poll, no-word, no-poll-left}
 use borrow.Author.Needs.{needs}
-use Rattle.pll_run.proofs.recording.record_polls.Statement.{statement}
-use Rattle.pll_run.proofs.recording.record_polls.Tie as tie
+use Rattle.pll_run.proofs.record_polls.Statement.{statement}
+use Rattle.pll_run.proofs.record_polls.Tie as tie
 
 abbrev Inv-loop : tie.InvT-loop
 Inv-loop plan words kinds₀ numbers₀ values₀ status s₀ kinds numbers values s = (s .at ≡ 9) × Carrying plan words (polling s₀) (polling s) (rows kinds₀ numbers₀ values₀) (rows kinds numbers values)

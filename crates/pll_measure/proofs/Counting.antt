@@ -6,13 +6,13 @@ use mathlib.Core.List.{List}
 use lib.ListN.{length, drop}
 use Rattle.pll_rows.specs.Sequence.{Log, after}
 use Rattle.pll_sequence.proofs.Bound.{at-most-ahead}
-use Rattle.pll_run.specs.declared.Access.{Access}
-use Rattle.pll_run.specs.declared.End.{End}
-use Rattle.pll_run.specs.declared.Host.{Host}
-use Rattle.pll_run.specs.declared.Ran.{Ran}
-use Rattle.pll_run.specs.declared.Turn.{Turn}
-use Rattle.pll_run.specs.declared.Turn.the-variants.{Did, Over}
-use Rattle.pll_run.specs.Host.{left, access, IsEnd, Turned, Measured}
+use Rattle.pll_measure.specs.declared.Access.{Access}
+use Rattle.pll_measure.specs.declared.End.{End}
+use Rattle.pll_measure.specs.declared.Host.{Host}
+use Rattle.pll_measure.specs.declared.Ran.{Ran}
+use Rattle.pll_measure.specs.declared.Turn.{Turn}
+use Rattle.pll_measure.specs.declared.Turn.the-variants.{Did, Over}
+use Rattle.pll_measure.specs.Host.{left, access, IsEnd, Turned, Measured}
 
 abbrev len : Log → ℕ
 len l = length (l .accesses)

@@ -7,8 +7,8 @@ use Rattle.pll_run.specs.Record.{rows}
 use Rattle.pll_run.proofs.Carrying.{Carrying, start, room, put, finish, some}
 use Rattle.pll_run.proofs.Due.{does-read, does-write, starves, no-poll-yet, no-end-yet}
 use borrow.Author.Needs.{needs}
-use Rattle.pll_run.proofs.recording.record_opening.Statement.{statement}
-use Rattle.pll_run.proofs.recording.record_opening.Tie as tie
+use Rattle.pll_run.proofs.record_opening.Statement.{statement}
+use Rattle.pll_run.proofs.record_opening.Tie as tie
 
 abbrev Inv-loop : tie.InvT-loop
 Inv-loop plan words kinds₀ numbers₀ values₀ s₀ kinds numbers values s = (s .at ≤ 9) × Carrying plan words s₀ s (rows kinds₀ numbers₀ values₀) (rows kinds numbers values)

@@ -1,7 +1,7 @@
--- `pll_run::fits` meets its contract. Assumes nothing.
+-- `pll_run::whole::fits` meets its contract. Assumes nothing.
 use mathlib.Core.Logic.{inl, inr}
-use Rattle.pll_run.proofs.fits.Statement.{statement}
-use Rattle.pll_run.proofs.fits.Tie as tie
+use Rattle.pll_run.proofs.whole.fits.Statement.{statement}
+use Rattle.pll_run.proofs.whole.fits.Tie as tie
 
 returns : tie.Need-returns
 returns c = inl (c .if1 .taken)

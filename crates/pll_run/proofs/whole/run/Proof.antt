@@ -1,4 +1,4 @@
--- `pll_run::run` meets its contract. Assumes nothing.
+-- `pll_run::whole::run` meets its contract. Assumes nothing.
 use Prim.Native.Nat.{_+_}
 use mathlib.Core.Path.{subst}
 use mathlib.Core.Logic.{⊎-elim}
@@ -11,8 +11,8 @@ use Rattle.pll_run.specs.Record.{Rows, rows, Room}
 use Rattle.pll_run.specs.Spot.{Finished}
 use Rattle.pll_run.proofs.Answer.{refuses, counted-room, answers, fits-in, does-not-fit, surely}
 use borrow.Author.Needs.{needs}
-use Rattle.pll_run.proofs.run.Statement.{statement}
-use Rattle.pll_run.proofs.run.Tie as tie
+use Rattle.pll_run.proofs.whole.run.Statement.{statement}
+use Rattle.pll_run.proofs.whole.run.Tie as tie
 
 add-fits : tie.Need-add-fits
 add-fits c = search needs

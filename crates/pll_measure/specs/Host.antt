@@ -6,13 +6,13 @@ use lib.ListN.{length, drop}
 use Rattle.pll_rows.specs.Sequence.{Log, Ending, locked, timed-out, starved, after, ends}
 use Rattle.pll_rows.specs.Sequence as rows
 use Rattle.pll_sequence.specs.Runs.{ahead-of}
-use Rattle.pll_run.specs.declared.Access.{Access}
-use Rattle.pll_run.specs.declared.End.{End}
-use Rattle.pll_run.specs.declared.End.the-variants.{Locked, LockTimeout, Starved, NoRoom}
-use Rattle.pll_run.specs.declared.Host.{Host}
-use Rattle.pll_run.specs.declared.Ran.{Ran}
-use Rattle.pll_run.specs.declared.Turn.{Turn}
-use Rattle.pll_run.specs.declared.Turn.the-variants.{Did, Over}
+use Rattle.pll_measure.specs.declared.Access.{Access}
+use Rattle.pll_measure.specs.declared.End.{End}
+use Rattle.pll_measure.specs.declared.End.the-variants.{Locked, LockTimeout, Starved, NoRoom}
+use Rattle.pll_measure.specs.declared.Host.{Host}
+use Rattle.pll_measure.specs.declared.Ran.{Ran}
+use Rattle.pll_measure.specs.declared.Turn.{Turn}
+use Rattle.pll_measure.specs.declared.Turn.the-variants.{Did, Over}
 
 -- all that is still to come
 abbrev pub left : List ℕ → Host → Log

@@ -1,12 +1,12 @@
--- `pll_run::host_step` meets its contract. Assumes nothing.
+-- `pll_measure::host_step` meets its contract. Assumes nothing.
 use Prim.Native.Nat.{ℕ}
 use mathlib.Core.List.{List}
 use Rattle.pll_sequence.specs.Step.{Steps}
-use Rattle.pll_run.specs.declared.Host.{Host}
-use Rattle.pll_run.proofs.Turns.{starves, does-read, does-write, locks, times-out}
+use Rattle.pll_measure.specs.declared.Host.{Host}
+use Rattle.pll_measure.proofs.Turns.{starves, does-read, does-write, locks, times-out}
 use borrow.Author.Needs.{needs}
-use Rattle.pll_run.proofs.host_step.Statement.{statement}
-use Rattle.pll_run.proofs.host_step.Tie as tie
+use Rattle.pll_measure.proofs.host_step.Statement.{statement}
+use Rattle.pll_measure.proofs.host_step.Tie as tie
 
 -- the arguments, and what the step ensures, from where the request is at hand
 abbrev words : tie.After-sequence2 → List ℕ
