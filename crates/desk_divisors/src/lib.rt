@@ -1,5 +1,6 @@
 // The requests for divisors: `two-stage` and `ttc`. Each function is given the line and where the word after the request's name
-// begins, and writes the answer; the caller has seen that there is room for the longest.
+// begins, and writes the answer. It looks first whether there is room for the longest answer of any request. Without that room
+// nothing is written, and the position answered is past the buffer's end.
 mod ttc_request;
 mod two_stage_request;
 

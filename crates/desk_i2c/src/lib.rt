@@ -1,5 +1,5 @@
 // The requests about the I2C bus: `i2c REF normal` or `fast`, and `i2c-speed REF A B`. As in desk_divisors, each function is given where the
-// word after the request's name begins, and its caller has seen that there is room for the longest answer.
+// word after the request's name begins.
 use desk_answers::put_decimals;
 use desk_answers::put_fault;
 use desk_answers::put_refusal;

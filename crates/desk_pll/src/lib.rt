@@ -1,5 +1,5 @@
 // The requests for a PLL's settings: `pll-target` and `pll-mul`. As in desk_divisors, each function is given where the word after
-// the request's name begins, and its caller has seen that there is room for the longest answer.
+// the request's name begins.
 use desk_answers::put_decimals;
 use desk_answers::put_fault;
 use desk_answers::put_refusal;

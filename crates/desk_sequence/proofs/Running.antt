@@ -1,19 +1,19 @@
 -- What a run leaves in its rows, read back, is the run's own list.
-use mathlib.Core.Path.{_≡_, refl, sym, ap, _∙_, subst, subst⁻¹}
+use mathlib.Core.Path.{_≡_, refl, ap, _∙_, subst}
 use mathlib.Core.Logic.{⊎-elim}
 use mathlib.Core.List.{List, [], _∷_, _++_, map}
-use Prim.Native.Nat.{ℕ, zero, suc, _+_, _≤_, _<_}
+use Prim.Native.Nat.{ℕ, _+_, _≤_}
 use native.Mathlib.Omega.{arith}
 use lib.ListN.{length, take, drop, length-map}
 use lib.Seq.{take-at}
-use Rattle.refusals.specs.Told.{Told, answered, refused}
+use Rattle.refusals.specs.Told.{Told}
 use Rattle.pll_rows.specs.Sequence.{Access, Ending, locked, timed-out, starved, Log}
 use Rattle.pll_sequence.specs.declared.PllSequence.{PllSequence}
 use Rattle.pll_sequence.specs.Runs.{ahead-of}
 use Rattle.pll_measure.specs.declared.End.{End}
 use Rattle.pll_measure.specs.declared.End.the-variants as End
 use Rattle.pll_measure.specs.declared.Ran.{Ran}
-use Rattle.pll_run.specs.Record.{Rows, rows, Room, Short, over, written, ending, told-end, told, Recorded, no-room, recorded}
+use Rattle.pll_run.specs.Record.{Rows, Room, Short, over, written, ending, told-end, told, Recorded, no-room, recorded}
 use Rattle.desk_answers.specs.Answers.{Said}
 use Rattle.desk_sequence.specs.Printed.{zip, shown, ended, endText, printed}
 use Rattle.desk_sequence.proofs.Bound.{at-most}

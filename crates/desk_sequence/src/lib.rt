@@ -18,7 +18,7 @@ ghost use lib.ListN.{length, take};
 ghost use Rattle.desk_answers.specs.Answers.{Said};
 ghost use Rattle.desk_sequence.specs.Printed.{letter, access, zip, shown, endText};
 
-// The first accesses of three rows, as many as there were, and the end. For rows that hold so many, hence the requirements.
+// The first accesses of three rows, as many as there were, and the end. The rows are those of the run, which has filled them.
 fn put_log(
     ran: Ran,
     kinds: &[u32],

@@ -1,5 +1,5 @@
 // The requests for the pure parts of the clock set-up: `cpu-init` and `ddr-init`. As in desk_divisors, each function is given
-// where the word after the request's name begins, and its caller has seen that there is room for the longest answer.
+// where the word after the request's name begins.
 use clock_setup::CpuSetup;
 use clock_setup::DdrSetup;
 use clock_setup::new_with_2x_3x_init;

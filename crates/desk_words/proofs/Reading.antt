@@ -112,7 +112,8 @@ refusing (Fields.Bad k f) = 1
 pub few : {n most : ℕ} {Kept Past : Type 0} {r : Fields} {next : ℕ} → Within n most Kept ((r ≡ Fields.Bad 0 Fault.OneTooMany) × Past) → r ≡ Fields.All next → n ≤ most
 few {n} {most} w e = elim (decLt most n) [
   | yes l ↦ absurd (let z : _≡_ {A = ℕ} 0 1 = ap refusing (sym e ∙ w .full l .0) in omega arith)
-  | no l ↦ omega arith ]
+  | no l ↦ omega arith
+]
 
 pub only-refused : {most : ℕ} {limits : List ℕ} {words : List (List ℕ)} (line values : List ℕ) {after : List ℕ} (r : Fields) {k : ℕ} {f : Fault} → Within (2 + length limits) most (Numbers limits 2 words (fields line values r)) ((r ≡ Fields.Bad 0 Fault.OneTooMany) × (after ≡ limits)) → r ≡ Fields.Bad k f → Within (2 + length limits) most (Only limits words (bad k f)) ((Asked.Bad k f ≡ Asked.Bad 0 Fault.OneTooMany) × (after ≡ limits))
 only-refused {limits = limits} {words} line values r w e =

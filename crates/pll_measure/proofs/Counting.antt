@@ -1,5 +1,5 @@
 -- Counting a run's accesses one by one: the invariant, and how it starts, goes on and ends. Assumes nothing.
-use Prim.Native.Nat.{ℕ, suc, _+_, _≤_, _<_, _^_}
+use Prim.Native.Nat.{ℕ, _+_, _<_, _^_}
 use native.Mathlib.Omega.{arith}
 use mathlib.Core.Path.{_≡_, refl, sym, ap, subst, _∙_}
 use mathlib.Core.List.{List}
@@ -9,7 +9,6 @@ use Rattle.pll_sequence.proofs.Bound.{at-most-ahead}
 use Rattle.pll_measure.specs.declared.Access.{Access}
 use Rattle.pll_measure.specs.declared.End.{End}
 use Rattle.pll_measure.specs.declared.Host.{Host}
-use Rattle.pll_measure.specs.declared.Ran.{Ran}
 use Rattle.pll_measure.specs.declared.Turn.{Turn}
 use Rattle.pll_measure.specs.declared.Turn.the-variants.{Did, Over}
 use Rattle.pll_measure.specs.Host.{left, access, IsEnd, Turned, Measured}

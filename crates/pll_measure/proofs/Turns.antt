@@ -1,11 +1,11 @@
 -- One turn of a host over a slice, by what the step asks. Assumes nothing.
-use Prim.Native.Nat.{ℕ, suc, _+_, _≤_, _<_}
+use Prim.Native.Nat.{ℕ, _+_, _≤_, _<_}
 use native.Mathlib.Numerals.{add-one}
 use mathlib.Core.Path.{_≡_, refl, sym, ap, _∙_}
-use mathlib.Core.List.{List, [], _∷_}
+use mathlib.Core.List.{List, _∷_}
 use lib.ListN.{length, getD, drop, drop-of-length-le}
 use lib.Seq.{drop-cons}
-use Rattle.pll_rows.specs.Sequence.{Log, locked, timed-out, starved, ends}
+use Rattle.pll_rows.specs.Sequence.{locked, timed-out, starved}
 use Rattle.pll_sequence.specs.declared.Request.the-variants.{Read, Write, Locked, LockTimeout}
 use Rattle.pll_sequence.specs.declared.Step.{Step}
 use Rattle.pll_sequence.specs.Step.{Steps}
@@ -14,7 +14,7 @@ use Rattle.pll_sequence.proofs.Stepped.{on-read, on-no-word, on-write, on-locke
 use Rattle.pll_measure.specs.declared.End.the-variants as ends-of
 use Rattle.pll_measure.specs.declared.Host.{Host}
 use Rattle.pll_measure.specs.declared.Turn.the-variants.{Did, Over}
-use Rattle.pll_measure.specs.Host.{left, Turned}
+use Rattle.pll_measure.specs.Host.{Turned}
 
 module _ (words : List ℕ) (h : Host) {r : Step} (st : Steps (h .sequence) (h .word) r) where
   -- the words that are left begin with the next one

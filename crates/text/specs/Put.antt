@@ -1,5 +1,5 @@
 -- What a writer leaves in the buffer that it was lent, and which position it answers.
-use Prim.Native.Nat.{ℕ, _+_, _≤_, _<_}
+use Prim.Native.Nat.{ℕ, _+_, _≤_}
 use mathlib.Core.Path.{_≡_}
 use mathlib.Core.List.{List, _++_}
 use lib.ListN.{length, take, drop}

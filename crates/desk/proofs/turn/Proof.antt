@@ -1,9 +1,9 @@
 -- `desk::turn` keeps within the input.
-use Rattle.desk_blocks.proofs.Keeping.{kept-within}
 use borrow.Author.Needs.{needs}
 use mathlib.Core.Path.{sym}
 use native.Mathlib.Omega.{arith}
 use lib.Seq.{length-take-le}
+use Rattle.desk_blocks.proofs.Keeping.{kept-within}
 use Rattle.desk.proofs.turn.Statement.{statement}
 use Rattle.desk.proofs.turn.Tie as tie
 

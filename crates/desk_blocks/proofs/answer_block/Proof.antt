@@ -1,8 +1,8 @@
 -- `desk_blocks::answer_block` meets its contract.
-use mathlib.Core.Path.{refl}
-use Rattle.bounds.proofs.Bound.{kept, past}
 use borrow.Author.Needs.{needs}
+use mathlib.Core.Path.{refl}
 use native.Mathlib.Omega.{arith}
+use Rattle.bounds.proofs.Bound.{kept, past}
 use Rattle.desk_blocks.proofs.Stepping.{swallow-all, swallow-line, marked}
 use Rattle.desk_blocks.proofs.answer_block.Statement.{statement}
 use Rattle.desk_blocks.proofs.answer_block.Tie as tie

@@ -1,8 +1,8 @@
 -- `desk_blocks::keep` meets its contract: `Kept` is what holds after i bytes.
-use Rattle.desk_blocks.proofs.Keeping.{Kept, none, one-more, all, kept-bytes}
 use borrow.Author.Needs.{needs}
 use Prim.Native.Nat.{_-_}
 use native.Mathlib.Omega.{arith}
+use Rattle.desk_blocks.proofs.Keeping.{Kept, none, one-more, all, kept-bytes}
 use Rattle.desk_blocks.proofs.keep.Statement.{statement}
 use Rattle.desk_blocks.proofs.keep.Tie as tie
 

@@ -1,6 +1,6 @@
 -- `desk_clocks::put_error` meets its contract.
-use native.Mathlib.Omega.{arith}
 use borrow.Author.Needs.{needs}
+use native.Mathlib.Omega.{arith}
 use lib.Dec.{lit≤}
 use Rattle.desk_clocks.proofs.Telling.{error-as, carrying}
 use Rattle.desk_clocks.proofs.put_error.Statement.{statement}

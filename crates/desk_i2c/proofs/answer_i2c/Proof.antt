@@ -1,8 +1,8 @@
 -- `desk_i2c::answer_i2c` meets its contract.
-use native.Mathlib.Omega.{arith}
-use mathlib.Core.Path.{refl}
-use Rattle.bounds.proofs.Bound.{kept, past}
 use borrow.Author.Needs.{needs}
+use mathlib.Core.Path.{refl}
+use native.Mathlib.Omega.{arith}
+use Rattle.bounds.proofs.Bound.{kept, past}
 use Rattle.desk_i2c.proofs.I2c.{bad-number, bad-speed, one-more, i2c-told}
 use Rattle.desk_i2c.proofs.answer_i2c.Statement.{statement}
 use Rattle.desk_i2c.proofs.answer_i2c.Tie as tie

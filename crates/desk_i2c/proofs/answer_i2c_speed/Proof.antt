@@ -1,10 +1,10 @@
 -- `desk_i2c::answer_i2c_speed` meets its contract.
-use mathlib.Core.Path.{refl}
-use Rattle.bounds.proofs.Bound.{kept, past}
 use borrow.Author.Needs.{needs}
+use mathlib.Core.Path.{refl}
 use mathlib.Core.Path.{ap}
-use lib.Dec.{lit≤}
 use native.Mathlib.Omega.{arith}
+use lib.Dec.{lit≤}
+use Rattle.bounds.proofs.Bound.{kept, past}
 use Rattle.refusals.specs.Told.{answered}
 use Rattle.desk_words.proofs.Reading.{only-within}
 use Rattle.desk_answers.proofs.Replying.{within, faulted, replied}

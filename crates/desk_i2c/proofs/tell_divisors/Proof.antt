@@ -1,7 +1,7 @@
 -- `desk_i2c::tell_divisors` meets its contract.
-use native.Mathlib.Omega.{arith}
 use borrow.Author.Needs.{needs}
 use mathlib.Core.Path.{ap}
+use native.Mathlib.Omega.{arith}
 use lib.Dec.{lit≤}
 use Rattle.i2c.specs.Divisors.{told}
 use Rattle.desk_answers.proofs.Replying.{told-as}

@@ -1,8 +1,8 @@
 -- `desk_image::read_image` meets its contract.
-use native.Mathlib.Omega.{arith}
-use mathlib.Core.Path.{refl}
-use Rattle.bounds.proofs.Bound.{kept, past}
 use borrow.Author.Needs.{needs}
+use mathlib.Core.Path.{refl}
+use native.Mathlib.Omega.{arith}
+use Rattle.bounds.proofs.Bound.{kept, past}
 use Rattle.desk_image.proofs.Reading.{bad-number, then-registers}
 use Rattle.desk_image.proofs.read_image.Statement.{statement}
 use Rattle.desk_image.proofs.read_image.Tie as tie

@@ -1,7 +1,7 @@
 -- `desk_pll::tell_setting` meets its contract.
-use native.Mathlib.Omega.{arith}
 use borrow.Author.Needs.{needs}
 use mathlib.Core.Path.{ap}
+use native.Mathlib.Omega.{arith}
 use lib.Dec.{lit≤}
 use Rattle.pll_settings.specs.Settings.{told}
 use Rattle.desk_answers.proofs.Replying.{told-as}

@@ -1,7 +1,7 @@
 -- `desk_requests::answer_named` meets its contract: one line a request.
 use borrow.Author.Needs.{needs}
-use Prim.Native.Nat.{zero-le}
 use mathlib.Core.Path.{_≡_}
+use Prim.Native.Nat.{zero-le}
 use native.Mathlib.Omega.{arith}
 use Rattle.desk_requests.specs.Requests.{Answer}
 use Rattle.desk_requests.proofs.Dispatch.{answers, above, place-below}

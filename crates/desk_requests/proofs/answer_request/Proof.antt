@@ -1,8 +1,8 @@
 -- `desk_requests::answer_request` meets its contract.
-use native.Mathlib.Omega.{arith}
-use mathlib.Core.Path.{refl}
-use Rattle.bounds.proofs.Bound.{kept, past}
 use borrow.Author.Needs.{needs}
+use mathlib.Core.Path.{refl}
+use native.Mathlib.Omega.{arith}
+use Rattle.bounds.proofs.Bound.{kept, past}
 use Rattle.desk_requests.proofs.Dispatch.{a-request, no-request}
 use Rattle.desk_requests.proofs.answer_request.Statement.{statement}
 use Rattle.desk_requests.proofs.answer_request.Tie as tie

@@ -1,6 +1,6 @@
 -- `desk_sequence::put_end` meets its contract.
-use native.Mathlib.Omega.{arith}
 use borrow.Author.Needs.{needs}
+use native.Mathlib.Omega.{arith}
 use lib.Dec.{lit≤}
 use Rattle.desk_sequence.proofs.Writing.{end-as, put-as}
 use Rattle.desk_sequence.proofs.put_end.Statement.{statement}

@@ -1,7 +1,7 @@
 -- `desk_sequence::put_log` meets its contract.
 use borrow.Author.Needs.{needs}
-use mathlib.Core.Path.{sym, _∙_}
 use denote.Ref.{now}
+use mathlib.Core.Path.{sym, _∙_}
 use native.Mathlib.Omega.{arith}
 use lib.Seq.{length-take-le}
 use Rattle.desk_sequence.proofs.Writing.{room-for-end, with-end}

@@ -1,8 +1,8 @@
 -- `desk_setup::answer_ddr_init` meets its contract.
-use native.Mathlib.Omega.{arith}
-use mathlib.Core.Path.{refl}
-use Rattle.bounds.proofs.Bound.{kept, past}
 use borrow.Author.Needs.{needs}
+use mathlib.Core.Path.{refl}
+use native.Mathlib.Omega.{arith}
+use Rattle.bounds.proofs.Bound.{kept, past}
 use Rattle.desk_answers.proofs.Replying.{faulted, replied}
 use Rattle.desk_setup.proofs.answer_ddr_init.Statement.{statement}
 use Rattle.desk_setup.proofs.answer_ddr_init.Tie as tie

@@ -1,7 +1,7 @@
 -- `desk_setup::tell_cpu` meets its contract.
-use native.Mathlib.Omega.{arith}
 use borrow.Author.Needs.{needs}
 use mathlib.Core.Path.{ap}
+use native.Mathlib.Omega.{arith}
 use lib.Dec.{lit≤}
 use Rattle.clock_setup.specs.Cpu.{told-cpu}
 use Rattle.desk_answers.proofs.Replying.{told-as}

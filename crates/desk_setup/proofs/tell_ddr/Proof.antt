@@ -1,7 +1,7 @@
 -- `desk_setup::tell_ddr` meets its contract.
-use native.Mathlib.Omega.{arith}
 use borrow.Author.Needs.{needs}
 use mathlib.Core.Path.{ap}
+use native.Mathlib.Omega.{arith}
 use lib.Dec.{lit≤}
 use Rattle.clock_setup.specs.Ddr.{told-ddr}
 use Rattle.desk_answers.proofs.Replying.{told-as}

@@ -1,6 +1,6 @@
 -- `hand_settings::hand_pll_mul` hands back what the call tells. Assumes nothing.
-use Rattle.handing.proofs.Handing.{of-answer}
 use borrow.Author.Needs.{needs}
+use Rattle.handing.proofs.Handing.{of-answer}
 use Rattle.hand_settings.proofs.hand_pll_mul.Statement.{statement}
 use Rattle.hand_settings.proofs.hand_pll_mul.Tie as tie
 

@@ -1,8 +1,8 @@
 -- `hand_settings::hand_pll_target` hands back the setting of target over crystal. Assumes nothing.
+use borrow.Author.Needs.{needs}
 use native.Mathlib.Omega.{arith}
 use Rattle.handing.proofs.Handing.{of-answer, of-rule}
 use Rattle.pll_settings.specs.Settings.{no-crystal, by-multiplier}
-use borrow.Author.Needs.{needs}
 use Rattle.hand_settings.proofs.hand_pll_target.Statement.{statement}
 use Rattle.hand_settings.proofs.hand_pll_target.Tie as tie
 

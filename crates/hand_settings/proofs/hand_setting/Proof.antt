@@ -1,9 +1,9 @@
 -- `hand_settings::hand_setting` hands back the setting that it is given. Assumes nothing.
-use native.Mathlib.Omega.{arith}
+use borrow.Author.Needs.{needs}
 use mathlib.Core.Path.{ap, refl}
+use native.Mathlib.Omega.{arith}
 use Rattle.handing.proofs.Handing.{no-row, refuses, answers}
 use Rattle.pll_settings.specs.Settings.{told}
-use borrow.Author.Needs.{needs}
 use Rattle.hand_settings.proofs.hand_setting.Statement.{statement}
 use Rattle.hand_settings.proofs.hand_setting.Tie as tie
 

@@ -1,8 +1,8 @@
 -- `handing::put` meets its contract on either side of its test. Assumes nothing.
-use native.Mathlib.Omega.{arith}
-use mathlib.Core.Path.{refl}
-use Rattle.bounds.proofs.Bound.{kept, past}
 use borrow.Author.Needs.{needs}
+use mathlib.Core.Path.{refl}
+use native.Mathlib.Omega.{arith}
+use Rattle.bounds.proofs.Bound.{kept, past}
 use Rattle.handing.proofs.put.Statement.{statement}
 use Rattle.handing.proofs.put.Tie as tie
 

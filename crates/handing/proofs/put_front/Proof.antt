@@ -1,9 +1,9 @@
 -- `handing::put_front` meets its contract: after i turns the first i words are overwritten. Assumes nothing.
 use borrow.Author.Needs.{needs}
-use Prim.Native.Nat.{ℕ, _-_, _≤_, _<_}
-use mathlib.Core.List.{List, _++_}
 use denote.Ref.{now}
+use mathlib.Core.List.{List, _++_}
 use mathlib.Core.Path.{_≡_, refl, ap, _∙_}
+use Prim.Native.Nat.{ℕ, _-_, _≤_, _<_}
 use native.Mathlib.Omega.{arith}
 use lib.ListN.{length, length-set, drop, set, getD}
 use lib.Seq.{take-length}

@@ -1,10 +1,10 @@
 -- `pll_measure::host_step` meets its contract. Assumes nothing.
-use Prim.Native.Nat.{ℕ}
+use borrow.Author.Needs.{needs}
 use mathlib.Core.List.{List}
+use Prim.Native.Nat.{ℕ}
 use Rattle.pll_sequence.specs.Step.{Steps}
 use Rattle.pll_measure.specs.declared.Host.{Host}
 use Rattle.pll_measure.proofs.Turns.{starves, does-read, does-write, locks, times-out}
-use borrow.Author.Needs.{needs}
 use Rattle.pll_measure.proofs.host_step.Statement.{statement}
 use Rattle.pll_measure.proofs.host_step.Tie as tie
 

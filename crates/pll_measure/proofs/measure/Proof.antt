@@ -1,10 +1,8 @@
 -- `pll_measure::measure` meets its contract. Assumes nothing.
-use Prim.Native.Nat.{ℕ}
-use mathlib.Core.Path.{subst}
+use borrow.Author.Needs.{needs}
 use native.Mathlib.Omega.{arith}
 use lib.ListN.{length}
-use borrow.Author.Needs.{needs}
-use Rattle.pll_measure.specs.Host.{left, Turned}
+use Rattle.pll_measure.specs.Host.{left}
 use Rattle.pll_measure.proofs.Counting.{Counting, start, less, fits, more, done}
 use Rattle.pll_measure.proofs.measure.Statement.{statement}
 use Rattle.pll_measure.proofs.measure.Tie as tie

@@ -1,7 +1,8 @@
 -- `record` meets its contract: its parts follow one another, by `Parts`. Assumes nothing.
-use native.Mathlib.Omega.{arith}
-use mathlib.Core.Path.{refl}
+use borrow.Author.Needs.{needs}
 use denote.Ref.{now}
+use mathlib.Core.Path.{refl}
+use native.Mathlib.Omega.{arith}
 use Rattle.pll_rows.specs.Sequence.{Log, sequence}
 use Rattle.pll_sequence.specs.Runs.{ahead}
 use Rattle.pll_run.specs.Record.{Rows, rows}
@@ -9,7 +10,6 @@ use Rattle.pll_run.specs.Spot.{Finished}
 use Rattle.pll_run.proofs.Due.{spot}
 use Rattle.pll_run.proofs.Parts.{goes-on, is-over}
 use Rattle.pll_run.proofs.Stored.{start, enough, kinds-kept, numbers-kept, values-kept}
-use borrow.Author.Needs.{needs}
 use Rattle.pll_run.proofs.record.Statement.{statement}
 use Rattle.pll_run.proofs.record.Tie as tie
 

@@ -1,8 +1,8 @@
 -- `record_closing` meets its contract: from each place after the polls, by `Closing`. Assumes nothing.
-use native.Mathlib.Omega.{arith}
-use denote.Ref.{now}
-use Rattle.pll_run.proofs.Closing.{closed, room-for-write, writes, starves, room-for-read, room-for-both, two-fit, reads-and-writes}
 use borrow.Author.Needs.{needs}
+use denote.Ref.{now}
+use native.Mathlib.Omega.{arith}
+use Rattle.pll_run.proofs.Closing.{closed, room-for-write, writes, starves, room-for-read, room-for-both, two-fit, reads-and-writes}
 use Rattle.pll_run.proofs.record_closing.Statement.{statement}
 use Rattle.pll_run.proofs.record_closing.Tie as tie
 

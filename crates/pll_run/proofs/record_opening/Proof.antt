@@ -1,12 +1,12 @@
 -- `record_opening` meets its contract: each row before the polls is recorded. Assumes nothing.
+use borrow.Author.Needs.{needs}
+use denote.Ref.{now}
+use mathlib.Core.Path.{refl}
 use Prim.Native.Nat.{_+_, _-_, _≤_}
 use native.Mathlib.Omega.{arith}
-use mathlib.Core.Path.{refl}
-use denote.Ref.{now}
 use Rattle.pll_run.specs.Record.{rows}
 use Rattle.pll_run.proofs.Carrying.{Carrying, start, room, put, finish, some}
 use Rattle.pll_run.proofs.Due.{does-read, does-write, starves, no-poll-yet, no-end-yet}
-use borrow.Author.Needs.{needs}
 use Rattle.pll_run.proofs.record_opening.Statement.{statement}
 use Rattle.pll_run.proofs.record_opening.Tie as tie
 

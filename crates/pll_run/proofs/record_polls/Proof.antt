@@ -1,15 +1,15 @@
 -- `record_polls` meets its contract: each poll is recorded, up to the one that shows the lock. Assumes nothing.
-use Prim.Native.Nat.{ℕ, _+_, _-_}
-use native.Mathlib.Omega.{arith}
+use borrow.Author.Needs.{needs}
+use denote.Ref.{now}
 use mathlib.Core.Path.{_≡_, refl, sym, _∙_}
 use mathlib.Core.List.{List}
-use denote.Ref.{now}
+use Prim.Native.Nat.{ℕ, _+_, _-_}
+use native.Mathlib.Omega.{arith}
 use lib.ListN.{getD}
 use Rattle.pll_run.specs.declared.Spot.{Spot}
 use Rattle.pll_run.specs.Record.{Rows, rows}
 use Rattle.pll_run.proofs.Carrying.{Carrying, start, room, put, finish, polling, enough-polling, at-the-polls}
 use Rattle.pll_run.proofs.Due.{spot, shows-lock, shows-none, some-poll, no-word, no-poll-left}
-use borrow.Author.Needs.{needs}
 use Rattle.pll_run.proofs.record_polls.Statement.{statement}
 use Rattle.pll_run.proofs.record_polls.Tie as tie
 

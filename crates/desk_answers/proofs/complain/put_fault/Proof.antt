@@ -1,8 +1,8 @@
 -- `desk_answers::complain::put_fault` meets its contract.
-use native.Mathlib.Omega.{arith}
-use mathlib.Core.Path.{refl}
-use Rattle.bounds.proofs.Bound.{kept, past}
 use borrow.Author.Needs.{needs}
+use mathlib.Core.Path.{refl}
+use native.Mathlib.Omega.{arith}
+use Rattle.bounds.proofs.Bound.{kept, past}
 use Rattle.desk_answers.proofs.Writing.{room-for-wrong, complained}
 use Rattle.desk_answers.proofs.complain.put_fault.Statement.{statement}
 use Rattle.desk_answers.proofs.complain.put_fault.Tie as tie

@@ -1,9 +1,9 @@
 -- `desk_answers::tell::put_decimals` meets its contract.
-use mathlib.Core.Path.{refl}
-use Rattle.bounds.proofs.Bound.{kept, past}
 use borrow.Author.Needs.{needs}
 use denote.Ref.{now}
+use mathlib.Core.Path.{refl}
 use native.Mathlib.Omega.{arith}
+use Rattle.bounds.proofs.Bound.{kept, past}
 use Rattle.desk_answers.proofs.Writing.{no-numbers, room-after, numbers}
 use Rattle.desk_answers.proofs.tell.put_decimals.Statement.{statement}
 use Rattle.desk_answers.proofs.tell.put_decimals.Tie as tie

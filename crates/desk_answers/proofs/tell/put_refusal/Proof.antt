@@ -1,8 +1,8 @@
 -- `desk_answers::tell::put_refusal` meets its contract.
-use native.Mathlib.Omega.{arith}
-use mathlib.Core.Path.{refl}
-use Rattle.bounds.proofs.Bound.{kept, past}
 use borrow.Author.Needs.{needs}
+use mathlib.Core.Path.{refl}
+use native.Mathlib.Omega.{arith}
+use Rattle.bounds.proofs.Bound.{kept, past}
 use Rattle.desk_answers.proofs.Writing.{refused}
 use Rattle.desk_answers.proofs.tell.put_refusal.Statement.{statement}
 use Rattle.desk_answers.proofs.tell.put_refusal.Tie as tie

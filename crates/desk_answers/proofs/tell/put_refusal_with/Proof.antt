@@ -1,8 +1,8 @@
 -- `desk_answers::tell::put_refusal_with` meets its contract.
-use native.Mathlib.Omega.{arith}
-use mathlib.Core.Path.{refl}
-use Rattle.bounds.proofs.Bound.{kept, past}
 use borrow.Author.Needs.{needs}
+use mathlib.Core.Path.{refl}
+use native.Mathlib.Omega.{arith}
+use Rattle.bounds.proofs.Bound.{kept, past}
 use Rattle.desk_answers.proofs.Writing.{refused-with}
 use Rattle.desk_answers.proofs.tell.put_refusal_with.Statement.{statement}
 use Rattle.desk_answers.proofs.tell.put_refusal_with.Tie as tie

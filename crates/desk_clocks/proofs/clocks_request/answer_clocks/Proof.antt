@@ -1,11 +1,11 @@
 -- `desk_clocks::clocks_request::answer_clocks` meets its contract.
-use native.Mathlib.Omega.{arith}
-use mathlib.Core.Path.{refl}
-use Rattle.bounds.proofs.Bound.{kept, past}
 use borrow.Author.Needs.{needs}
+use mathlib.Core.Path.{refl}
 use mathlib.Core.Path.{sym}
+use native.Mathlib.Omega.{arith}
 use lib.Dec.{lit≤}
 use lib.Seq.{length-take-le}
+use Rattle.bounds.proofs.Bound.{kept, past}
 use Rattle.desk_image.proofs.Replying.{counted, image-faulted, image-replied}
 use Rattle.desk_clocks.proofs.clocks_request.answer_clocks.Statement.{statement}
 use Rattle.desk_clocks.proofs.clocks_request.answer_clocks.Tie as tie

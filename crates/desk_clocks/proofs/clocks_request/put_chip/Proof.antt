@@ -1,6 +1,6 @@
 -- `desk_clocks::clocks_request::put_chip` meets its contract.
-use native.Mathlib.Omega.{arith}
 use borrow.Author.Needs.{needs}
+use native.Mathlib.Omega.{arith}
 use Rattle.desk_clocks.proofs.Telling.{numbers-as}
 use Rattle.desk_clocks.proofs.clocks_request.put_chip.Statement.{statement}
 use Rattle.desk_clocks.proofs.clocks_request.put_chip.Tie as tie

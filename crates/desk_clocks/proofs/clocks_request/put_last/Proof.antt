@@ -1,7 +1,7 @@
 -- `desk_clocks::clocks_request::put_last` meets its contract.
 use borrow.Author.Needs.{needs}
-use lib.Dec.{lit≤}
 use native.Mathlib.Omega.{arith}
+use lib.Dec.{lit≤}
 use Rattle.desk_answers.proofs.Replying.{within}
 use Rattle.desk_clocks.proofs.Telling.{fits, joined, room-left, trace-row}
 use Rattle.desk_clocks.proofs.clocks_request.put_last.Statement.{statement}

@@ -1,7 +1,7 @@
 -- `desk_clocks::gem_request::put_read` meets its contract.
-use native.Mathlib.Omega.{arith}
 use borrow.Author.Needs.{needs}
 use mathlib.Core.Path.{ap}
+use native.Mathlib.Omega.{arith}
 use lib.Dec.{lit≤}
 use Rattle.gem.specs.Gem.{told}
 use Rattle.desk_answers.proofs.Replying.{told-as}

@@ -1,7 +1,7 @@
 -- `desk_divisors::ttc_request::tell_interval` meets its contract.
-use native.Mathlib.Omega.{arith}
 use borrow.Author.Needs.{needs}
 use mathlib.Core.Path.{ap}
+use native.Mathlib.Omega.{arith}
 use lib.Dec.{lit≤}
 use Rattle.ttc.specs.Interval.{told}
 use Rattle.desk_answers.proofs.Replying.{told-as}

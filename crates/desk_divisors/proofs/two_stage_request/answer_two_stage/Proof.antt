@@ -1,8 +1,8 @@
 -- `desk_divisors::two_stage_request::answer_two_stage` meets its contract.
-use native.Mathlib.Omega.{arith}
-use mathlib.Core.Path.{refl}
-use Rattle.bounds.proofs.Bound.{kept, past}
 use borrow.Author.Needs.{needs}
+use mathlib.Core.Path.{refl}
+use native.Mathlib.Omega.{arith}
+use Rattle.bounds.proofs.Bound.{kept, past}
 use Rattle.desk_answers.proofs.Replying.{faulted, replied}
 use Rattle.desk_divisors.proofs.two_stage_request.answer_two_stage.Statement.{statement}
 use Rattle.desk_divisors.proofs.two_stage_request.answer_two_stage.Tie as tie

@@ -1,7 +1,7 @@
 -- `desk_divisors::two_stage_request::tell_two_stage` meets its contract.
-use native.Mathlib.Omega.{arith}
 use borrow.Author.Needs.{needs}
 use mathlib.Core.Path.{ap}
+use native.Mathlib.Omega.{arith}
 use lib.Dec.{lit≤}
 use Rattle.two_stage.specs.Answer.{told}
 use Rattle.desk_answers.proofs.Replying.{told-as}

@@ -1,8 +1,8 @@
 -- `desk_requests::help::answer_help` meets its contract.
-use mathlib.Core.Path.{refl}
-use Rattle.bounds.proofs.Bound.{kept, past}
 use borrow.Author.Needs.{needs}
+use mathlib.Core.Path.{refl}
 use native.Mathlib.Omega.{arith}
+use Rattle.bounds.proofs.Bound.{kept, past}
 use Rattle.desk_requests.proofs.Dispatch.{help-more, help-told}
 use Rattle.desk_requests.proofs.help.answer_help.Statement.{statement}
 use Rattle.desk_requests.proofs.help.answer_help.Tie as tie

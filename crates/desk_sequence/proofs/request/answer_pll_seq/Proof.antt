@@ -1,8 +1,8 @@
 -- `desk_sequence::request::answer_pll_seq` meets its contract.
-use native.Mathlib.Omega.{arith}
-use mathlib.Core.Path.{refl}
-use Rattle.bounds.proofs.Bound.{kept, past}
 use borrow.Author.Needs.{needs}
+use mathlib.Core.Path.{refl}
+use native.Mathlib.Omega.{arith}
+use Rattle.bounds.proofs.Bound.{kept, past}
 use Rattle.desk_sequence.proofs.Replying.{bad-pll, pll-told}
 use Rattle.desk_sequence.proofs.request.answer_pll_seq.Statement.{statement}
 use Rattle.desk_sequence.proofs.request.answer_pll_seq.Tie as tie

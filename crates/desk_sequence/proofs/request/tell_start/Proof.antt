@@ -1,7 +1,7 @@
 -- `desk_sequence::request::tell_start` meets its contract.
-use native.Mathlib.Omega.{arith}
 use borrow.Author.Needs.{needs}
 use mathlib.Core.Path.{refl}
+use native.Mathlib.Omega.{arith}
 use Rattle.desk_sequence.proofs.Replying.{ran, not-started}
 use Rattle.desk_sequence.proofs.request.tell_start.Statement.{statement}
 use Rattle.desk_sequence.proofs.request.tell_start.Tie as tie

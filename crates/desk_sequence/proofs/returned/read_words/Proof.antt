@@ -1,11 +1,11 @@
 -- `desk_sequence::returned::read_words` meets its contract.
-use Rattle.words.proofs.Splitting.{past as ended}
-use Rattle.bounds.proofs.Bound.{kept, past}
 use borrow.Author.Needs.{needs}
 use mathlib.Core.Path.{refl}
 use Prim.Native.Nat.{_-_}
 use native.Mathlib.Omega.{arith}
 use lib.ListN.{length}
+use Rattle.bounds.proofs.Bound.{kept, past}
+use Rattle.words.proofs.Splitting.{past as ended}
 use Rattle.words.specs.Words.{wordsFrom}
 use Rattle.desk_sequence.proofs.Reading.{ReadTo, begin, one-more, bad-word, good-word, read-all, a-value, an-empty, not-eight}
 use Rattle.desk_sequence.proofs.returned.read_words.Statement.{statement}

@@ -1,8 +1,8 @@
 -- `desk_uart::uart_list_request::answer_uart_list` meets its contract.
-use native.Mathlib.Omega.{arith}
-use mathlib.Core.Path.{refl}
-use Rattle.bounds.proofs.Bound.{kept, past}
 use borrow.Author.Needs.{needs}
+use mathlib.Core.Path.{refl}
+use native.Mathlib.Omega.{arith}
+use Rattle.bounds.proofs.Bound.{kept, past}
 use Rattle.desk_answers.proofs.Replying.{faulted}
 use Rattle.desk_uart.proofs.Listing.{list-replied}
 use Rattle.desk_uart.proofs.uart_list_request.answer_uart_list.Statement.{statement}

@@ -1,8 +1,8 @@
 -- `desk_uart::uart_request::answer_uart` meets its contract.
-use native.Mathlib.Omega.{arith}
-use mathlib.Core.Path.{refl}
-use Rattle.bounds.proofs.Bound.{kept, past}
 use borrow.Author.Needs.{needs}
+use mathlib.Core.Path.{refl}
+use native.Mathlib.Omega.{arith}
+use Rattle.bounds.proofs.Bound.{kept, past}
 use Rattle.desk_answers.proofs.Replying.{faulted, replied}
 use Rattle.desk_uart.proofs.uart_request.answer_uart.Statement.{statement}
 use Rattle.desk_uart.proofs.uart_request.answer_uart.Tie as tie

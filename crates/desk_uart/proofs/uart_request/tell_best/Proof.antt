@@ -1,7 +1,7 @@
 -- `desk_uart::uart_request::tell_best` meets its contract.
-use native.Mathlib.Omega.{arith}
 use borrow.Author.Needs.{needs}
 use mathlib.Core.Path.{ap}
+use native.Mathlib.Omega.{arith}
 use lib.Dec.{lit≤}
 use Rattle.uart_best.specs.Best.{told}
 use Rattle.desk_answers.proofs.Replying.{told-as}

@@ -1,8 +1,8 @@
 -- `desk_words::numbers::only_numbers` meets its contract.
-use Rattle.desk_words.proofs.Reading.{only-refused, few, only-more, only-these}
-use Rattle.bounds.proofs.Bound.{kept}
 use borrow.Author.Needs.{needs}
 use native.Mathlib.Omega.{arith}
+use Rattle.bounds.proofs.Bound.{kept}
+use Rattle.desk_words.proofs.Reading.{only-refused, few, only-more, only-these}
 use Rattle.desk_words.proofs.numbers.only_numbers.Statement.{statement}
 use Rattle.desk_words.proofs.numbers.only_numbers.Tie as tie
 

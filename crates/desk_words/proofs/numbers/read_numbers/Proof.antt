@@ -1,11 +1,11 @@
 -- `desk_words::numbers::read_numbers` meets its contract.
-use mathlib.Core.Path.{refl}
-use Rattle.words.proofs.Splitting.{past as ended}
-use Rattle.bounds.proofs.Bound.{kept, past}
 use borrow.Author.Needs.{needs}
+use mathlib.Core.Path.{refl}
 use Prim.Native.Nat.{_-_}
 use native.Mathlib.Omega.{arith}
 use lib.ListN.{length}
+use Rattle.bounds.proofs.Bound.{kept, past}
+use Rattle.words.proofs.Splitting.{past as ended}
 use Rattle.words.specs.Words.{wordsFrom}
 use Rattle.desk_words.proofs.Reading.{ReadTo, begin, no-word, bad-word, good-word, read-all, fault-as, value-as}
 use Rattle.desk_words.proofs.numbers.read_numbers.Statement.{statement}

@@ -1,10 +1,10 @@
 -- `hand_clocks::image::hand_clocks` hands back what evaluation tells. Assumes nothing.
-use native.Mathlib.Omega.{arith}
+use borrow.Author.Needs.{needs}
 use mathlib.Core.Path.{ap, sym, _∙_}
-use Rattle.handing.proofs.Handing.{no-row, refuses, answers}
+use native.Mathlib.Omega.{arith}
+use Rattle.handing.proofs.Handing.{no-row, answers}
 use Rattle.evaluation.specs.Evaluated.{told}
 use Rattle.hand_clocks.proofs.Errors.{error-handed}
-use borrow.Author.Needs.{needs}
 use Rattle.hand_clocks.proofs.image.hand_clocks.Statement.{statement}
 use Rattle.hand_clocks.proofs.image.hand_clocks.Tie as tie
 

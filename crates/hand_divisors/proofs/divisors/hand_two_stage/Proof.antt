@@ -1,9 +1,9 @@
 -- `hand_divisors::divisors::hand_two_stage` hands back what the search tells. Assumes nothing.
-use native.Mathlib.Omega.{arith}
+use borrow.Author.Needs.{needs}
 use mathlib.Core.Path.{ap}
+use native.Mathlib.Omega.{arith}
 use Rattle.handing.proofs.Handing.{no-row, refuses, answers}
 use Rattle.two_stage.specs.Answer.{told}
-use borrow.Author.Needs.{needs}
 use Rattle.hand_divisors.proofs.divisors.hand_two_stage.Statement.{statement}
 use Rattle.hand_divisors.proofs.divisors.hand_two_stage.Tie as tie
 

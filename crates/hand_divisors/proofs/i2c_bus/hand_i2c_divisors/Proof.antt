@@ -1,9 +1,9 @@
 -- `hand_divisors::i2c_bus::hand_i2c_divisors` hands back what the search tells. Assumes nothing.
-use native.Mathlib.Omega.{arith}
+use borrow.Author.Needs.{needs}
 use mathlib.Core.Path.{ap}
+use native.Mathlib.Omega.{arith}
 use Rattle.handing.proofs.Handing.{no-row, refuses, answers}
 use Rattle.i2c.specs.Divisors.{told}
-use borrow.Author.Needs.{needs}
 use Rattle.hand_divisors.proofs.i2c_bus.hand_i2c_divisors.Statement.{statement}
 use Rattle.hand_divisors.proofs.i2c_bus.hand_i2c_divisors.Tie as tie
 

@@ -1,8 +1,8 @@
-use native.Mathlib.Omega.{arith}
+use borrow.Author.Needs.{needs}
 use mathlib.Core.Path.{ap}
+use native.Mathlib.Omega.{arith}
 use Rattle.ttc.specs.Interval.{told}
 use Rattle.handing.proofs.Handing.{no-row, refuses, answers}
-use borrow.Author.Needs.{needs}
 use Rattle.hand_divisors.proofs.timer.hand_ttc.Statement.{statement}
 use Rattle.hand_divisors.proofs.timer.hand_ttc.Tie as tie
 

@@ -1,9 +1,9 @@
 -- `hand_setup::setup::hand_ddr_init` hands back what the set-up tells. Assumes nothing.
-use native.Mathlib.Omega.{arith}
+use borrow.Author.Needs.{needs}
 use mathlib.Core.Path.{ap}
+use native.Mathlib.Omega.{arith}
 use Rattle.handing.proofs.Handing.{no-row, refuses, answers}
 use Rattle.clock_setup.specs.Ddr.{told-ddr}
-use borrow.Author.Needs.{needs}
 use Rattle.hand_setup.proofs.setup.hand_ddr_init.Statement.{statement}
 use Rattle.hand_setup.proofs.setup.hand_ddr_init.Tie as tie
 

@@ -1,8 +1,8 @@
 -- `hand_start::once::start_plan_once` meets its contract. Assumes nothing.
+use borrow.Author.Needs.{needs}
 use mathlib.Core.Path.{ap}
 use Rattle.pll_start.specs.Start.{told}
 use Rattle.hand_start.proofs.Starting.{refuses-once, starts-once}
-use borrow.Author.Needs.{needs}
 use Rattle.hand_start.proofs.once.start_plan_once.Statement.{statement}
 use Rattle.hand_start.proofs.once.start_plan_once.Tie as tie
 

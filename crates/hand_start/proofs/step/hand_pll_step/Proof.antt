@@ -1,10 +1,10 @@
 -- `hand_start::step::hand_pll_step` meets its contract. Assumes nothing.
-use native.Mathlib.Omega.{arith}
+use borrow.Author.Needs.{needs}
 use mathlib.Core.Path.{ap}
+use native.Mathlib.Omega.{arith}
 use Rattle.pll_words.specs.Kept.{told}
 use Rattle.hand_start.specs.Stepped.{short}
 use Rattle.hand_start.proofs.Starting.{no-run, stepped}
-use borrow.Author.Needs.{needs}
 use Rattle.hand_start.proofs.step.hand_pll_step.Statement.{statement}
 use Rattle.hand_start.proofs.step.hand_pll_step.Tie as tie
 

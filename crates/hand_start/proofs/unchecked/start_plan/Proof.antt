@@ -1,8 +1,8 @@
 -- `hand_start::unchecked::start_plan` meets its contract. Assumes nothing.
+use borrow.Author.Needs.{needs}
 use mathlib.Core.Path.{ap}
 use Rattle.pll_start.specs.Start.{told}
 use Rattle.hand_start.proofs.Starting.{refuses, starts}
-use borrow.Author.Needs.{needs}
 use Rattle.hand_start.proofs.unchecked.start_plan.Statement.{statement}
 use Rattle.hand_start.proofs.unchecked.start_plan.Tie as tie
 

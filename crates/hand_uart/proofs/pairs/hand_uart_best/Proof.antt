@@ -1,9 +1,9 @@
 -- `hand_uart::pairs::hand_uart_best` hands back what the search tells. Assumes nothing.
-use native.Mathlib.Omega.{arith}
+use borrow.Author.Needs.{needs}
 use mathlib.Core.Path.{ap}
+use native.Mathlib.Omega.{arith}
 use Rattle.handing.proofs.Handing.{no-row, refuses, answers}
 use Rattle.uart_best.specs.Best.{told}
-use borrow.Author.Needs.{needs}
 use Rattle.hand_uart.proofs.pairs.hand_uart_best.Statement.{statement}
 use Rattle.hand_uart.proofs.pairs.hand_uart_best.Tie as tie
 

@@ -1,8 +1,9 @@
 -- `pll_run::whole::run` meets its contract. Assumes nothing.
-use Prim.Native.Nat.{_+_}
+use borrow.Author.Needs.{needs}
+use denote.Ref.{now}
 use mathlib.Core.Path.{subst}
 use mathlib.Core.Logic.{⊎-elim}
-use denote.Ref.{now}
+use Prim.Native.Nat.{_+_}
 use lib.ListN.{length}
 use Rattle.pll_rows.specs.Sequence.{Log, sequence}
 use Rattle.pll_sequence.specs.declared.Place.{Place}
@@ -10,7 +11,6 @@ use Rattle.pll_sequence.specs.Runs.{ahead, ahead-of}
 use Rattle.pll_run.specs.Record.{Rows, rows, Room}
 use Rattle.pll_run.specs.Spot.{Finished}
 use Rattle.pll_run.proofs.Answer.{refuses, counted-room, answers, fits-in, does-not-fit, surely}
-use borrow.Author.Needs.{needs}
 use Rattle.pll_run.proofs.whole.run.Statement.{statement}
 use Rattle.pll_run.proofs.whole.run.Tie as tie
 

@@ -1,12 +1,12 @@
 -- `pll_words::writing::put_step` meets its contract on either side of its test. Assumes nothing.
+use borrow.Author.Needs.{needs}
+use denote.Ref.{now}
+use mathlib.Core.Path.{refl}
 use Prim.Native.Nat.{_≤_}
 use native.Mathlib.Omega.{arith}
-use mathlib.Core.Path.{refl}
-use denote.Ref.{now}
 use lib.ListN.{length, drop}
 use Rattle.bounds.proofs.Bound.{kept, past}
 use Rattle.pll_words.proofs.Rows.{stepped}
-use borrow.Author.Needs.{needs}
 use Rattle.pll_words.proofs.writing.put_step.Statement.{statement}
 use Rattle.pll_words.proofs.writing.put_step.Tie as tie
 

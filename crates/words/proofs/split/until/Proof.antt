@@ -1,7 +1,7 @@
 -- `words::split::until` meets its contract.
+use mathlib.Core.Path.{_≡_, refl}
 use Prim.Native.Nat.{_-_}
 use native.Mathlib.Omega.{arith}
-use mathlib.Core.Path.{_≡_, refl}
 use lib.ListN.{length}
 use Rattle.bounds.specs.Within.{Within}
 use Rattle.words.proofs.Splitting.{Passed, begin, one-more, stop}
