@@ -1,4 +1,5 @@
 -- `desk::turn` keeps within the input.
+use Prim.Native.Nat.{_+_}
 use borrow.Author.Needs.{needs}
 use mathlib.Core.Path.{sym}
 use native.Mathlib.Omega.{arith}
@@ -56,7 +57,7 @@ same-length-5 : tie.Need-same-length-5
 same-length-5 c = search needs
 
 returns-3 : tie.Need-returns-3
-returns-3 c = omega (arith, kept-within _ _ _ (c .before .before .keep .ensures .0))
+returns-3 c = omega (arith, kept-within (c .before .before .before .before .before .before .before .before .before .before .before .before .fill .last .0) (c .before .before .before .before .before .before .drain .result .used) (c .before .before .before .before .before .before .before .before .before .before .before .before .before .before .before .before .args .held .count + c .before .before .before .before .before .before .before .before .before .before .before .before .fill .result) (c .before .before .keep .ensures .0), c .before .before .before .before .before .before .before .before .before .before .before .before .fill .kept .0)
 
 pub turn-spec : {M : Type 1} → statement M
 turn-spec =
