@@ -12,7 +12,7 @@ use Rattle.pll_sequence.specs.Step.{told}
 use Rattle.pll_words.specs.declared.writing.Ask.{Ask}
 use Rattle.pll_words.specs.Asking.{words}
 use Rattle.pll_words.specs.Row.{pllNumber, flag, stateWords, askedWords, stepWords}
-use Rattle.pll_words.specs.Kept.{largest, Within}
+use Rattle.pll_words.specs.Kept.{largest, NoneOver}
 
 -- n words from word i on
 abbrev pub from : ℕ → ℕ → List ℕ → List ℕ

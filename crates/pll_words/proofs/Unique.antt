@@ -10,7 +10,7 @@ use Rattle.registers.specs.declared.PllType.{PllType}
 use Rattle.registers.specs.declared.PllType.the-variants.{Arm, Ddr, Io}
 use Rattle.pll_sequence.specs.declared.PllSequence.{PllSequence}
 use Rattle.pll_words.specs.Row.{pllNumber, flag, stateWords}
-use Rattle.pll_words.specs.Kept.{Within, Over, Keeps, short, too-large, keeps}
+use Rattle.pll_words.specs.Kept.{NoneOver, Over, Keeps, short, too-large, keeps}
 
 pub one-pll : (p q : PllType) → pllNumber p ≡ pllNumber q → p ≡ q
 one-pll Arm Arm e = refl
@@ -48,7 +48,7 @@ one-state s t e =
       place = record { at = same 6 i; polls = same 7 i; word = same 8 i };
     }
 
-not-both : (row : List ℕ) → Over row → Within row → ⊥
+not-both : (row : List ℕ) → Over row → NoneOver row → ⊥
 not-both row (i, lt, over) within = let h = within i lt in omega arith
 
 pub unique : {row : List ℕ} {a b : Told PllSequence} → Keeps row a → Keeps row b → a ≡ b

@@ -15,20 +15,20 @@ use Rattle.pll_words.specs.declared.reading.Kept.the-variants.{Run, NoRu
 abbrev pub largest : List ℕ
 largest = 2 ∷ 1 ∷ 127 ∷ 15 ∷ 15 ∷ 1023 ∷ 12 ∷ 65535 ∷ []
 
-abbrev pub Within : List ℕ → Type 0
-Within row = (i : ℕ) → i < length largest → getD row i 0 ≤ getD largest i 0
+abbrev pub NoneOver : List ℕ → Type 0
+NoneOver row = (i : ℕ) → i < length largest → getD row i 0 ≤ getD largest i 0
 
 abbrev pub Over : List ℕ → Type 0
 Over row = (i : ℕ) × (i < length largest) × (getD largest i 0 < getD row i 0)
 
 abbrev pub Judged : List ℕ → Bool → Type 0
-Judged row true = Within row
+Judged row true = NoneOver row
 Judged row false = Over row
 
 pub data Keeps (row : List ℕ) : Told PllSequence → Type 0 where
   short : length row < 9 → Keeps row (refused BAD-FIELD [])
   too-large : 9 ≤ length row → Over row → Keeps row (refused BAD-FIELD [])
-  keeps : {s : PllSequence} → 9 ≤ length row → Within row → take 9 row ≡ stateWords s → Keeps row (answered s)
+  keeps : {s : PllSequence} → 9 ≤ length row → NoneOver row → take 9 row ≡ stateWords s → Keeps row (answered s)
 
 abbrev pub told : Kept → Told PllSequence
 told (Run s) = answered s

@@ -10,7 +10,7 @@ ghost use Prim.Native.Nat.{_≤_};
 ghost use mathlib.Core.Path.{_≡_};
 ghost use lib.ListN.{length, getD, take};
 ghost use Rattle.pll_words.specs.Row.{pllNumber, stateWords};
-ghost use Rattle.pll_words.specs.Kept.{Within, Judged, Keeps, told};
+ghost use Rattle.pll_words.specs.Kept.{NoneOver, Judged, Keeps, told};
 
 pub enum Kept {
     Run(PllSequence),
@@ -36,7 +36,7 @@ fn fits(row: &[u32]) -> bool
 
 fn state_of(pll: PllType, row: &[u32]) -> PllSequence
     requires { ⌜ 9 ≤ length (now row) ⌝ }
-    requires { ⌜ Within (now row) ⌝ }
+    requires { ⌜ NoneOver (now row) ⌝ }
     requires { ⌜ getD (now row) 0 0 ≡ pllNumber pll ⌝ }
     ensures { λ r. ⌜ take 9 (now (row .entry)) ≡ stateWords r ⌝ }
 {
