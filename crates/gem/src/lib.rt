@@ -15,7 +15,8 @@ pub enum GemRead {
     DivisorZero(ClockModuleId),
 }
 
-fn calculate_gem_ref_clock(out: PllOutputs, word: u32, id: ClockModuleId) -> GemRead
+// From the PLL outputs of a record, wherever they are kept.
+pub fn calculate_gem_ref_clock(out: PllOutputs, word: u32, id: ClockModuleId) -> GemRead
     ensures { λ r. ⌜ Right out word id (told r) ⌝ }
 {
     if read_field(word, DIVISOR) == 0 {

@@ -1,44 +1,49 @@
--- Where one answer is right, one number and one row can be handed back. Assumes nothing.
+-- One law for every call: where its promise has one answer, one number and one row can be handed back. Assumes nothing.
 use Prim.Native.Nat.{ℕ, _≤_, _<_}
-use mathlib.Core.Path.{_≡_, refl, ap}
+use mathlib.Core.Path.{_≡_, sym, ap, _∙_}
+use mathlib.Core.Logic.{_⊎_, inl, inr}
 use mathlib.Core.List.{List, [], _∷_, _++_}
-use native.Mathlib.Omega.{arith}
 use lib.ListN.{length, drop}
-use Rattle.refusals.specs.Told.{Told, answered, refused}
-use Rattle.handing.specs.Handed.{Handed, Numbered, code}
+use Rattle.bounds.proofs.Bound.{side}
+use Rattle.refusals.specs.Told.{Told, answered, refused, InWords}
+use Rattle.handing.specs.Handed.{Given, Handed, coded}
 
--- what a result comes to as a number and the row's words
-module _ {A : Type 0} (words : A → List ℕ) (room : ℕ) (before : List ℕ) where
-  abbrev number : Told A → ℕ
-  number (answered a) = 0
-  number (refused n carried) = code n carried
+-- a promise that one answer meets
+abbrev pub Single : {A : Type 0} → (Told A → Type 0) → Type 0
+Single {A} Right = (t u : Told A) → Right t → Right u → t ≡ u
 
-  abbrev row : Told A → List ℕ
-  row (answered a) = words a ++ drop room before
-  row (refused n carried) = before
+abbrev in-words : {A : Type 0} → (A → List ℕ) → Told A → Told (List ℕ)
+in-words words (answered a) = answered (words a)
+in-words words (refused n carried) = refused n carried
 
-  both : {t u : Told A} → t ≡ u → (number t ≡ number u) × (row t ≡ row u)
-  both e = (ap number e, ap row e)
+pub single : {A : Type 0} {words : A → List ℕ} {Right : Told A → Type 0} → Single Right → Single (InWords words Right)
+single {words = w} one _ _ (InWords.answer x) (InWords.answer y) = ap (in-words w) (one _ _ x y)
+single {words = w} one _ _ (InWords.answer x) (InWords.refusal y) = ap (in-words w) (one _ _ x y)
+single {words = w} one _ _ (InWords.refusal x) (InWords.answer y) = ap (in-words w) (one _ _ x y)
+single {words = w} one _ _ (InWords.refusal x) (InWords.refusal y) = ap (in-words w) (one _ _ x y)
 
-  module _ {Right : Told A → Type 0} (one : (t u : Told A) → Right t → Right u → t ≡ u) where
-    pub unique : {r q : ℕ} {a b : List ℕ} → Handed words room Right before r a → Handed words room Right before q b → (r ≡ q) × (a ≡ b)
-    unique (Handed.short h) (Handed.short g) = (refl, refl)
-    unique (Handed.short h) (Handed.refusal g y) = absurd (omega arith)
-    unique (Handed.short h) (Handed.answer g y) = absurd (omega arith)
-    unique (Handed.refusal h x) (Handed.short g) = absurd (omega arith)
-    unique (Handed.refusal h x) (Handed.refusal g y) = both (one _ _ x y)
-    unique (Handed.refusal h x) (Handed.answer g y) = both (one _ _ x y)
-    unique (Handed.answer h x) (Handed.short g) = absurd (omega arith)
-    unique (Handed.answer h x) (Handed.refusal g y) = both (one _ _ x y)
-    unique (Handed.answer h x) (Handed.answer g y) = both (one _ _ x y)
+-- what a result comes to in the row
+abbrev row : List ℕ → Told (List ℕ) → List ℕ
+row before (answered words) = words ++ drop (length words) before
+row before (refused n carried) = before
 
-abbrev numbered : Told ℕ → ℕ
-numbered (answered n) = code 0 (n ∷ [])
-numbered (refused n carried) = code n carried
+module _ {Tells : Told (List ℕ) → Type 0} (one : Single Tells) (before : List ℕ) where
+  both : {t u : Told (List ℕ)} → t ≡ u → (coded t ≡ coded u) × (row before t ≡ row before u)
+  both e = (ap coded e, ap (row before) e)
 
-module _ {Right : Told ℕ → Type 0} (one : (t u : Told ℕ) → Right t → Right u → t ≡ u) where
-  pub unique-number : {r q : ℕ} → Numbered Right r → Numbered Right q → r ≡ q
-  unique-number (Numbered.number x) (Numbered.number y) = ap numbered (one _ _ x y)
-  unique-number (Numbered.number x) (Numbered.refusal y) = ap numbered (one _ _ x y)
-  unique-number (Numbered.refusal x) (Numbered.number y) = ap numbered (one _ _ x y)
-  unique-number (Numbered.refusal x) (Numbered.refusal y) = ap numbered (one _ _ x y)
+  pub one-given : {r q : ℕ} {a b : List ℕ} → Given Tells before r a → Given Tells before q b → (r ≡ q) × (a ≡ b)
+  one-given (Given.refusal _ x) (Given.refusal _ y) = both (one _ _ x y)
+  one-given (Given.refusal _ x) (Given.answer y) = both (one _ _ x y)
+  one-given (Given.answer x) (Given.refusal _ y) = both (one _ _ x y)
+  one-given (Given.answer x) (Given.answer y) = both (one _ _ x y)
+
+-- two results that are handed back for the same row are equal
+abbrev pub Settled : ℕ → (Told (List ℕ) → Type 0) → Type 0
+Settled room Tells = (before : List ℕ) (r q : ℕ) (a b : List ℕ) → Handed room Tells before r a → Handed room Tells before q b → (r ≡ q) × (a ≡ b)
+
+pub settled : {room : ℕ} {Tells : Told (List ℕ) → Type 0} → Single Tells → Settled room Tells
+settled {room} one before r q a b x y = by (side room (length before))
+  where
+    by : (room ≤ length before) ⊎ (length before < room) → (r ≡ q) × (a ≡ b)
+    by (inl k) = one-given one before (x .fits k) (y .fits k)
+    by (inr k) = (x .full k .0 ∙ sym (y .full k .0), x .full k .1 ∙ sym (y .full k .1))

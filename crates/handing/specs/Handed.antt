@@ -1,8 +1,11 @@
--- What a call through C hands back: a number, and a lent row of words.
-use Prim.Native.Nat.{ℕ, _+_, _*_, _^_, _≤_, _<_}
+-- What a call hands back as numbers: one of 64 bits, and a lent row of words. Programs in C get just this, and the desk prints it.
+use Prim.Native.Nat.{ℕ, _+_, _*_, _^_}
+use mathlib.Core.Path.{_≡_}
 use mathlib.Core.List.{List, [], _∷_, _++_}
 use lib.ListN.{length, drop}
+use Rattle.bounds.specs.Within.{Within}
 use Rattle.refusals.specs.Told.{Told, answered, refused}
+use Rattle.refusals.specs.Carried.{Carried}
 use Rattle.refusals.specs.Number.{NO-ROOM}
 
 abbrev pub first : List ℕ → ℕ
@@ -13,14 +16,18 @@ first (c ∷ cs) = c
 abbrev pub code : ℕ → List ℕ → ℕ
 code number carried = number + first carried * 2 ^ 32
 
--- A row too short is refusal 9, which carries the words needed. A refusal leaves the row as it was. An answer's words stand at the
--- front of the row, and what lies behind them is as it was. `words` gives the answer's words, as many as `room` says.
-pub data Handed {A : Type 0} (words : A → List ℕ) (room : ℕ) (Right : Told A → Type 0) (before : List ℕ) : ℕ → List ℕ → Type 0 where
-  short : length before < room → Handed words room Right before (code NO-ROOM (room ∷ [])) before
-  refusal : {number : ℕ} {carried : List ℕ} → room ≤ length before → Right (refused number carried) → Handed words room Right before (code number carried) before
-  answer : {a : A} → room ≤ length before → Right (answered a) → Handed words room Right before 0 (words a ++ drop room before)
+-- what is told, as that number: 0 for an answer
+abbrev pub coded : {A : Type 0} → Told A → ℕ
+coded (answered a) = 0
+coded (refused number carried) = code number carried
 
--- An answer of one number needs no row: it stands where a refusal has what it carries, above a 0.
-pub data Numbered (Right : Told ℕ → Type 0) : ℕ → Type 0 where
-  number : {n : ℕ} → Right (answered n) → Numbered Right (code 0 (n ∷ []))
-  refusal : {number : ℕ} {carried : List ℕ} → Right (refused number carried) → Numbered Right (code number carried)
+-- An answer is 0, with its words at the front of the row and what lies behind them as it was. A refusal leaves the row as it was.
+-- `Tells` is what the call tells.
+pub data Given (Tells : Told (List ℕ) → Type 0) (before : List ℕ) : ℕ → List ℕ → Type 0 where
+  refusal : {number : ℕ} {carried : List ℕ} → Carried number carried → Tells (refused number carried) → Given Tells before (code number carried) before
+  answer : {words : List ℕ} → Tells (answered words) → Given Tells before 0 (words ++ drop (length words) before)
+
+-- A row too short for the answer, as many words as `room` says, is refused before anything else is looked at.
+abbrev pub Handed : ℕ → (Told (List ℕ) → Type 0) → List ℕ → ℕ → List ℕ → Type 0
+Handed room Tells before r after =
+    Within room (length before) (Given Tells before r after) ((r ≡ code NO-ROOM (room ∷ [])) × (after ≡ before))

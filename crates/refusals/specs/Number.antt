@@ -1,4 +1,4 @@
--- Document 01's refusals by name. docs/REFUSALS.md says which call gives which.
+-- The refusals by name: document 01's, and those that document 02's requests add (14 to 19). docs/REFUSALS.md says which call gives which.
 use Prim.Native.Nat.{ℕ}
 
 abbrev pub BAD-IMAGE : ℕ
@@ -39,6 +39,24 @@ BAD-LIMIT = 12
 
 abbrev pub ALREADY : ℕ
 ALREADY = 13
+
+abbrev pub ZERO-CLOCK : ℕ
+ZERO-CLOCK = 14
+
+abbrev pub BAD-SETTINGS : ℕ
+BAD-SETTINGS = 15
+
+abbrev pub NEWER : ℕ
+NEWER = 16
+
+abbrev pub NOT-YOURS : ℕ
+NOT-YOURS = 17
+
+abbrev pub BAD-ROWS : ℕ
+BAD-ROWS = 18
+
+abbrev pub TRACE-LONG : ℕ
+TRACE-LONG = 19
 
 abbrev pub BAD-FIELD : ℕ
 BAD-FIELD = 20

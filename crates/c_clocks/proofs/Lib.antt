@@ -1,0 +1,3 @@
+mod Errors
+pub mod Laws
+pub mod Update

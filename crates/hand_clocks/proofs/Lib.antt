@@ -1,2 +1,0 @@
-mod Errors
-pub mod Unique

@@ -1,2 +1,0 @@
-pub mod GemClock
-pub mod Words

@@ -1,2 +1,0 @@
-pub mod Update
-pub mod Words

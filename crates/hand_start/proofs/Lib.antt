@@ -1,3 +1,0 @@
-pub mod Marks
-pub mod Starting
-pub mod Unique

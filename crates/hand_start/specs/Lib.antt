@@ -1,2 +1,0 @@
-pub mod Started
-pub mod Stepped
