@@ -2,10 +2,12 @@
 use Prim.Native.Nat.{ℕ, _≤_, _<_}
 use mathlib.Core.Path.{_≡_, refl, sym, subst}
 use mathlib.Core.List.{List, [], _∷_, _++_}
+use native.Mathlib.Omega.{arith}
+use lib.Dec.{T}
 use lib.ListN.{length, drop}
 use Rattle.bounds.proofs.Bound.{kept, past}
 use Rattle.refusals.specs.Told.{Told, answered, refused, InWords}
-use Rattle.refusals.specs.Carried.{Carried}
+use Rattle.refusals.specs.Carried.{Carried, carries, carries-nothing}
 use Rattle.refusals.specs.Number.{NO-ROOM}
 use Rattle.handing.specs.Handed.{Given, Handed, code}
 
@@ -24,15 +26,27 @@ module _ {A : Type 0} {words : A → List ℕ} {Right : Told A → Type 0} {room
       (subst (λ (n : ℕ). Given (InWords words Right) before n after) (sym z)
       (subst (Given (InWords words Right) before 0) (sym w) (Given.answer (InWords.answer (subst Right e right)))))
 
--- what is handed back by one rule is handed back by any rule that follows from it
-module _ {A : Type 0} {words : A → List ℕ} {Right Wider : Told A → Type 0} (wider : (t : Told A) → Right t → Wider t) where
-  pub widened : (t : Told (List ℕ)) → InWords words Right t → InWords words Wider t
-  widened _ (InWords.answer right) = InWords.answer (wider _ right)
-  widened _ (InWords.refusal right) = InWords.refusal (wider _ right)
+-- what is given by one rule is given by any rule that follows from it
+pub given-by : {Tells Wider : Told (List ℕ) → Type 0} {before after : List ℕ} {r : ℕ} → ((t : Told (List ℕ)) → Tells t → Wider t) →
+    Given Tells before r after → Given Wider before r after
+given-by wider (Given.refusal c t) = Given.refusal c (wider _ t)
+given-by wider (Given.answer t) = Given.answer (wider _ t)
 
-  given-by : {before after : List ℕ} {r : ℕ} → Given (InWords words Right) before r after → Given (InWords words Wider) before r after
-  given-by (Given.refusal c t) = Given.refusal c (widened _ t)
-  given-by (Given.answer t) = Given.answer (widened _ t)
+widened : {A : Type 0} {words : A → List ℕ} {Right Wider : Told A → Type 0} → ((t : Told A) → Right t → Wider t) → (t : Told (List ℕ)) → InWords words Right t → InWords words Wider t
+widened wider _ (InWords.answer right) = InWords.answer (wider _ right)
+widened wider _ (InWords.refusal right) = InWords.refusal (wider _ right)
 
-  pub handed-by : {room : ℕ} {before after : List ℕ} {r : ℕ} → Handed room (InWords words Right) before r after → Handed room (InWords words Wider) before r after
-  handed-by h = record { fits = λ k. given-by (h .fits k); full = h .full }
+pub handed-by : {A : Type 0} {words : A → List ℕ} {Right Wider : Told A → Type 0} {room : ℕ} {before after : List ℕ} {r : ℕ} → ((t : Told A) → Right t → Wider t) →
+    Handed room (InWords words Right) before r after → Handed room (InWords words Wider) before r after
+handed-by wider h = record { fits = λ k. given-by (widened wider) (h .fits k); full = h .full }
+
+-- 0 is no refusal's number
+no-number : {n : ℕ} → n ≡ 0 → T (carries-nothing n) → ⊥
+no-number e t = subst (λ (k : ℕ). T (carries-nothing k)) e t
+
+no-carrier : {n : ℕ} → n ≡ 0 → T (carries n) → ⊥
+no-carrier e t = subst (λ (k : ℕ). T (carries k)) e t
+
+pub not-zero : (n : ℕ) (carried : List ℕ) → Carried n carried → code n carried ≡ 0 → ⊥
+not-zero n [] c e = no-number {n = n} (omega arith) c
+not-zero n (x ∷ []) c e = no-carrier {n = n} (omega arith) c

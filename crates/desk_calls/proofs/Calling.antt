@@ -1,0 +1,37 @@
+-- From the call at a place to what the dispatcher hands back. Assumes nothing.
+use Prim.Native.Nat.{ℕ, suc, _-_, _≤_}
+use mathlib.Core.Path.{_≡_, refl, sym, _∙_, subst⁻¹}
+use mathlib.Core.List.{List, [], _∷_, _++_}
+use native.Mathlib.Omega.{arith}
+use lib.ListN.{length, take, drop, length-take, length-drop, List·getD-eq-default}
+use lib.Seq.{take-all}
+use Rattle.bounds.proofs.Bound.{kept}
+use Rattle.handing.specs.Handed.{Given, Handed}
+use Rattle.desk_calls.specs.Calls.{Call, calls, call-at, gem, Answers}
+
+pub at-place : {place : ℕ} (n : List ℕ) {before after : List ℕ} {r : ℕ} (k : ℕ) → 26 ≤ length before → place ≡ k → Given (call-at k n) before r after → Handed 26 (call-at place n) before r after
+at-place n {before} {after} {r} k h e g = kept h (subst⁻¹ (λ (p : ℕ). Given (call-at p n) before r after) e g)
+
+-- one number, put into the row
+pub one-number : {value v : ℕ} {before after : List ℕ} {r : ℕ} → v ≡ value → (r ≡ 0) × (after ≡ (v ∷ []) ++ drop 1 before) → Given (Answers value) before r after
+one-number e (z, w) = rw (z, w, e) (Given.answer Answers.answers)
+
+-- the last arm: no place before it
+pub above : (k : ℕ) {i : ℕ} → k ≤ i → (i ≡ k → ⊥) → suc k ≤ i
+above k h n = omega arith
+
+pub at-last : {place : ℕ} (n : List ℕ) {before after : List ℕ} {r : ℕ} → 26 ≤ length before → 11 ≤ place → Given (gem n) before r after → Handed 26 (call-at place n) before r after
+at-last {place} n {before} {after} {r} h past g =
+    kept h (subst⁻¹ (λ (c : Call). Given (c n) before r after) (List·getD-eq-default calls gem past) g)
+
+-- a part up to the row's end
+pub all-left : (at : ℕ) (l : List ℕ) → take (length l - at) (drop at l) ≡ drop at l
+all-left at l = take-all (length l - at) (drop at l) (simp length-drop (omega arith))
+
+-- nothing lies past a row's end
+none-left : (l : List ℕ) → length l ≤ 0 → l ≡ []
+none-left [] h = refl
+none-left (x ∷ l) h = absurd (omega arith)
+
+pub past-end : (at : ℕ) (l : List ℕ) → length l ≤ at → take (length l - length l) (drop (length l) l) ≡ drop at l
+past-end at l h = none-left _ (simp (length-take, length-drop) (omega arith)) ∙ sym (none-left _ (simp length-drop (omega arith)))

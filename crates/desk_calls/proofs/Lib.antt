@@ -1,0 +1,2 @@
+mod Calling
+mod GemOfImage

@@ -1,0 +1,89 @@
+// The calls that the desk can be asked for, by their places in its table: numbers in one row, and what the call tells into another.
+use c_clock_setup::cpu_init;
+use c_clock_setup::ddr_init;
+use c_clocks::clocks;
+use c_gem::gem;
+use c_i2c::i2c;
+use c_i2c::i2c_speed;
+use c_pll_settings::pll_mul;
+use c_pll_settings::pll_target;
+use c_ttc::ttc;
+use c_two_stage::two_stage;
+use c_two_stage::two_stage_frequency;
+use c_uart::uart;
+use handing::no_room;
+use handing::put;
+use registers::GEM_0_CLK_CTRL;
+use registers::word;
+ghost use mathlib.Core.Path.{_≡_};
+ghost use mathlib.Core.List.{[], _∷_};
+ghost use Prim.Native.Nat.{_+_, _%_, _≤_};
+ghost use lib.ListN.{length, drop};
+ghost use Rattle.registers.specs.Words.{word as word-of, GEM-0-CLK-CTRL};
+ghost use Rattle.two_stage.specs.Best.{frequency as frequencyOf};
+ghost use Rattle.i2c.specs.Divisors.{clock};
+ghost use Rattle.handing.specs.Handed.{Handed, Given};
+ghost use Rattle.desk_calls.specs.Calls.{call-at, Answers, GemOfImage, isSet};
+
+// Makes the call at a place. Twenty-six words have room for every answer.
+pub fn call(place: usize, n: &[u32], out: &mut [u32]) -> u64
+    ensures { λ r. ⌜ Handed 26 (call-at place (now (n .entry))) (now (out .entry)) r (now (out .exit)) ⌝ }
+{
+    if out.len() < 26 {
+        return no_room(26);
+    }
+    let a = word(n, 0);
+    let b = word(n, 1);
+    let c = word(n, 2);
+    match place {
+        0 => two_stage(a, b, c, out),
+        1 => frequency(a, b, c, out),
+        2 => i2c(a, b != 0, out),
+        3 => speed(a, b, c, out),
+        4 => ttc(a, b, out),
+        5 => pll_target(a, b, out),
+        6 => pll_mul(a, out),
+        7 => uart(a, b, out),
+        8 => cpu_init(a, b != 0, c, out),
+        9 => ddr_init(a, b, c, out),
+        10 => clocks(a, from(n, 1), out),
+        _ => gem_of_image(a, b, from(n, 2), out),
+    }
+}
+
+// A part of a row from a place on: none past its end.
+fn from(n: &[u32], at: usize) -> &[u32]
+    ensures { λ r. ⌜ now r ≡ drop at (now (n .entry)) ⌝ }
+{
+    if at < n.len() { &n[at..] } else { &n[n.len()..] }
+}
+
+// The frequency of a pair of divisors.
+fn frequency(reference: u32, div0: u32, div1: u32, out: &mut [u32]) -> u64
+    requires { ⌜ 26 ≤ length (now out) ⌝ }
+    ensures { λ r. ⌜ Given (Answers (frequencyOf reference div0 div1)) (now (out .entry)) r (now (out .exit)) ⌝ }
+{
+    put(out, &[two_stage_frequency(reference, div0, div1)])
+}
+
+// The I2C speed of two register values, as far as their 8 bits go.
+fn speed(input: u32, a: u32, b: u32, out: &mut [u32]) -> u64
+    requires { ⌜ 26 ≤ length (now out) ⌝ }
+    ensures { λ r. ⌜ Given (Answers (clock input (a % 256 + 1) (b % 256 + 1))) (now (out .entry)) r (now (out .exit)) ⌝ }
+{
+    put(out, &[i2c_speed(input, (a % 256) as u8, (b % 256) as u8)])
+}
+
+// GEM takes an evaluated record: here the image is evaluated first.
+fn gem_of_image(controller: u32, crystal: u32, image: &[u32], out: &mut [u32]) -> u64
+    requires { ⌜ 26 ≤ length (now out) ⌝ }
+    ensures { λ r. ⌜ Given (GemOfImage (isSet controller) (word-of (now (image .entry)) (controller + GEM-0-CLK-CTRL)) crystal (now (image .entry))) (now (out .entry)) r (now (out .exit)) ⌝ }
+{
+    let mut row = [0u32; 26];
+    let told = clocks(crystal, image, &mut row);
+    if told != 0 {
+        return told;
+    }
+    let control = word(image, controller as usize + GEM_0_CLK_CTRL);
+    gem(controller != 0, control, &row, out)
+}
