@@ -1,2 +1,3 @@
-pub mod Help
-pub mod Requests
+pub mod Answer
+pub mod Row
+pub mod Table

@@ -1,31 +1,28 @@
-// One request, answered: its name decides which of the desk's crates reads the rest and writes the answer.
-mod help;
+// One request, answered. The table of requests stands in specs/Table.antt, and the code follows it by place: a name's place is found, the
+// words are read by the shape at that place, and what is told of their numbers is printed by the form there.
+mod column;
+mod complain;
 
-use desk_answers::put_fault;
-use desk_clocks::answer_clocks;
-use desk_clocks::answer_gem;
-use desk_divisors::answer_ttc;
-use desk_divisors::answer_two_stage;
-use desk_i2c::answer_i2c;
-use desk_i2c::answer_i2c_speed;
-use desk_pll::answer_pll_mul;
-use desk_pll::answer_pll_target;
-use desk_sequence::answer_pll_seq;
-use desk_setup::answer_cpu_init;
-use desk_setup::answer_ddr_init;
-use desk_uart::answer_uart;
-use desk_uart::answer_uart_list;
-use desk_words::Named;
-use desk_words::read_name;
-use help::answer_help;
+use column::column;
+use complain::put_fault;
+use desk_calls::call;
+use desk_pll_seq::put_pll_seq;
+use desk_uart_list::put_uart_list;
+use forms::put_told;
+use registers::word;
+use shapes::Named;
+use shapes::Read;
+use shapes::read_name;
+use shapes::read_shape;
+use text::put_bytes;
 use text::room;
-ghost use Prim.Native.Nat.{_+_, _≤_};
+ghost use Prim.Native.Nat.{_+_, _≤_, _<_};
 ghost use lib.ListN.{length};
 ghost use Rattle.words.specs.Words.{words, wordsFrom};
 ghost use Rattle.text.specs.Put.{InRoom};
-ghost use Rattle.desk_answers.specs.Reply.{ROOM, Says};
-ghost use Rattle.desk_words.specs.Names.{name, Name};
-ghost use Rattle.desk_requests.specs.Requests.{names, Answer};
+ghost use Rattle.forms.specs.Says.{ROOM, Says};
+ghost use Rattle.desk_requests.specs.Table.{row};
+ghost use Rattle.desk_requests.specs.Answer.{Asked, Answer};
 
 pub fn answer_request(line: &[u8], out: &mut [u8], at: usize) -> usize
     ensures { λ r. ⌜ InRoom ROOM (Says (Answer (words (now (line .entry))))) (now (out .entry)) at (now (out .exit)) r ⌝ }
@@ -35,34 +32,49 @@ pub fn answer_request(line: &[u8], out: &mut [u8], at: usize) -> usize
     }
     match read_name(
         line,
-        0,
-        b"two-stage i2c i2c-speed ttc pll-target pll-mul uart uart-list pll-seq cpu-init ddr-init clocks gem help",
+        b"two-stage two-stage-frequency i2c i2c-speed ttc pll-target pll-mul uart cpu-init ddr-init clocks gem uart-list pll-seq help",
     ) {
         Named::Bad(fault) => put_fault(1, fault, out, at),
-        Named::Name(i, next) => answer_named(i, line, next, out, at),
+        Named::Name(place, next) => answer_named(place, line, next, out, at),
     }
 }
 
-// The request at place i of the names above.
-fn answer_named(i: usize, line: &[u8], from: usize, out: &mut [u8], at: usize) -> usize
-    requires { ⌜ at + ROOM ≤ length (now out) ⌝ }
-    requires { ⌜ Name names (words (now line)) (name i (wordsFrom (now line) from)) ⌝ }
-    ensures { λ r. ⌜ Says (Answer (words (now (line .entry)))) (now (out .entry)) at (now (out .exit)) r ⌝ }
+// The words after the name, which begin at `from`.
+fn answer_named(place: usize, line: &[u8], from: usize, out: &mut [u8], at: usize) -> usize
+    requires { ⌜ (place < 15) × (at + ROOM ≤ length (now out)) ⌝ }
+    ensures { λ r. ⌜ Says (Asked (row place) (wordsFrom (now (line .entry)) from)) (now (out .entry)) at (now (out .exit)) r ⌝ }
 {
-    match i {
-        0 => answer_two_stage(line, from, out, at),
-        1 => answer_i2c(line, from, out, at),
-        2 => answer_i2c_speed(line, from, out, at),
-        3 => answer_ttc(line, from, out, at),
-        4 => answer_pll_target(line, from, out, at),
-        5 => answer_pll_mul(line, from, out, at),
-        6 => answer_uart(line, from, out, at),
-        7 => answer_uart_list(line, from, out, at),
-        8 => answer_pll_seq(line, from, out, at),
-        9 => answer_cpu_init(line, from, out, at),
-        10 => answer_ddr_init(line, from, out, at),
-        11 => answer_clocks(line, from, out, at),
-        12 => answer_gem(line, from, out, at),
-        _ => answer_help(line, from, out, at),
+    let mut numbers = [0u32; 160];
+    let shapes = b"nnn nnn ns nbb nn nn n nn nfn nnn nw fnw nn pfbbbhhw ";
+    match read_shape(column(shapes, place), line, from, &mut numbers) {
+        Read::Bad(word, fault) => put_fault(word, fault, out, at),
+        Read::Numbers(count) => answer_numbers(place, &numbers[..count], out, at),
     }
+}
+
+fn answer_numbers(place: usize, n: &[u32], out: &mut [u8], at: usize) -> usize
+    requires { ⌜ (place < 15) × (at + ROOM ≤ length (now out)) ⌝ }
+    ensures { λ r. ⌜ Says (row place .says (now (n .entry))) (now (out .entry)) at (now (out .exit)) r ⌝ }
+{
+    match place {
+        12 => put_uart_list(word(n, 0), word(n, 1), out, at),
+        13 => put_pll_seq(n, out, at),
+        14 => put_bytes(
+            b"two-stage REF TARGET MAX gives D0 D1; two-stage-frequency REF D0 D1 gives HZ; i2c REF normal|fast gives A B; i2c-speed REF A B gives HZ; ttc REF FREQ gives none|PRESCALER TICKS; pll-target CRYSTAL TARGET gives FDIV CP RES LOCK; pll-mul MUL gives FDIV CP RES LOCK; uart REF BAUD gives CD BDIV ERROR; cpu-init PLL RATIO DIV gives 1X 2X 3X2X 6X4X; ddr-init REF DIV3X DIV2X gives 3X 2X; clocks CRYSTAL W0 .. W49 gives ok and ARM_PLL IO_PLL DDR_PLL CPU_REF RATIO 1X 2X 3X2X 6X4X DDR_REF DDR3X DDR2X IO_REF SMC QSPI SDIO UART SPI CAN PCAP TRACE|emio FPGA0 FPGA1 FPGA2 FPGA3; gem 0|1 CRYSTAL W0 .. W49 gives HZ; uart-list REF BAUD gives the count and CD:BDIV:ERROR for each pair; pll-seq arm|ddr|io BYPASSED FDIV CP RES LOCK LIMIT R1 R2 .. gives the accesses and the end; help gives this line",
+            out,
+            at,
+        ),
+        _ => answer_call(place, n, out, at),
+    }
+}
+
+// What the call at a place tells, printed by the form at that place.
+fn answer_call(place: usize, n: &[u32], out: &mut [u8], at: usize) -> usize
+    requires { ⌜ (place < 12) × (at + ROOM ≤ length (now out)) ⌝ }
+    ensures { λ r. ⌜ Says (row place .says (now (n .entry))) (now (out .entry)) at (now (out .exit)) r ⌝ }
+{
+    let mut words = [0u32; 26];
+    let told = call(place, n, &mut words);
+    let forms = b"#_# # #_# # ?_# #_#_#_# #_#_#_# #_#_$ #_#_#_# #_# ok_#_#_#_#_#_#_#_#_#_#_#_#_#_#_#_#_#_#_#_#_~_#_#_#_# #";
+    put_told(column(forms, place), told, &words, out, at)
 }

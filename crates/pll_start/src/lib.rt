@@ -1,11 +1,11 @@
 // Starting the PLL sequence, once for each PLL or unchecked. The marks of what was started go in and come back by value.
 use pll_rows::PllPlan;
-use pll_sequence::Place;
-use pll_sequence::PllSequence;
 use pll_settings::PllConfig;
+use pll_step::Place;
+use pll_step::PllSequence;
 use registers::PllType;
 ghost use mathlib.Core.Path.{_≡_};
-ghost use Rattle.pll_start.specs.Start.{Judged, marked, mark, told, Starts, StartsOnce};
+ghost use Rattle.pll_start.specs.Start.{fits, marked, mark, told, told-once, start, once};
 
 // Which PLLs have been started.
 pub struct PllMarks {
@@ -26,22 +26,20 @@ pub struct Started {
     pub marks: PllMarks,
 }
 
-fn too_wide(config: PllConfig) -> bool
-    ensures { λ r. ⌜ Judged config r ⌝ }
+// Every setting fits its field.
+pub fn fits(config: PllConfig) -> bool
+    ensures { λ r. ⌜ r ≡ fits config ⌝ }
 {
     if config.fdiv > 127 {
-        return true;
+        return false;
     }
     if config.charge_pump > 15 {
-        return true;
+        return false;
     }
     if config.loop_resistor > 15 {
-        return true;
+        return false;
     }
-    if config.lock_count > 1023 {
-        return true;
-    }
-    false
+    config.lock_count <= 1023
 }
 
 fn marked(pll: PllType, marks: PllMarks) -> bool
@@ -68,31 +66,30 @@ fn mark(pll: PllType, marks: PllMarks) -> PllMarks
 
 // Starts a run whatever was started before, and marks nothing.
 pub fn configure_pll_unchecked(plan: PllPlan, limit: u16) -> Start
-    ensures { λ r. ⌜ Starts plan limit (told r) ⌝ }
+    ensures { λ r. ⌜ told r ≡ start plan limit ⌝ }
 {
     if limit == 0 {
         return Start::BadLimit;
     }
     let config = plan.config;
-    if too_wide(config) {
-        return Start::BadField;
+    if fits(config) {
+        let place = Place {
+            at: 0,
+            polls: limit,
+            word: 0,
+        };
+        Start::Run(PllSequence { plan, place })
+    } else {
+        Start::BadField
     }
-    let place = Place {
-        at: 0,
-        polls: limit,
-        word: 0,
-    };
-    Start::Run(PllSequence { plan, place })
 }
 
-// Starts a run of a PLL that has none yet, and marks it: the mark stays even if the run later times out.
-pub fn configure_pll(plan: PllPlan, limit: u16, marks: PllMarks) -> Started
-    ensures { λ r. ⌜ StartsOnce plan limit marks (told (r .start)) (r .marks) ⌝ }
+// A start of a PLL that has none yet goes through, and marks it: the mark stays even if the run later times out.
+pub fn once(pll: PllType, start: Start, marks: PllMarks) -> Started
+    ensures { λ r. ⌜ told-once r ≡ once pll (told start) marks ⌝ }
 {
-    let start = configure_pll_unchecked(plan, limit);
     match start {
         Start::Run(_) => {
-            let pll = plan.pll;
             if marked(pll, marks) {
                 return Started {
                     start: Start::Already,
@@ -106,4 +103,11 @@ pub fn configure_pll(plan: PllPlan, limit: u16, marks: PllMarks) -> Started
         Start::BadField => Started { start, marks },
         Start::Already => Started { start, marks },
     }
+}
+
+pub fn configure_pll(plan: PllPlan, limit: u16, marks: PllMarks) -> Started
+    ensures { λ r. ⌜ told-once r ≡ once (plan .pll) (start plan limit) marks ⌝ }
+{
+    let pll = plan.pll;
+    once(pll, configure_pll_unchecked(plan, limit), marks)
 }

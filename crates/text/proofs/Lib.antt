@@ -1,5 +1,2 @@
-pub mod Digit
-pub mod Value
-pub mod Places
-pub mod Spelling
+pub mod Digits
 pub mod Writing

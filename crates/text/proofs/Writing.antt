@@ -25,6 +25,10 @@ room text l at k after h e p =
       full = λ f. absurd (omega arith);
     }
 
+-- a text by another name
+pub same-text : {t u before : List ℕ} {at : ℕ} {after : List ℕ} {next : ℕ} → t ≡ u → Put t before at after next → Put u before at after next
+same-text {before = before} {at} {after} {next} e p = subst (λ (l : List ℕ). Put l before at after next) e p
+
 pub one-byte : (b : ℕ) (l : List ℕ) (at : ℕ) → at < length l → Put (b ∷ []) l at (set l at b) (at + 1)
 one-byte b l at h =
     record {

@@ -1,6 +1,4 @@
-// Numbers and words as bytes, in ASCII: reading a decimal number or eight hex digits, and writing either, or any bytes,
-// into a lent buffer. specs/ says what the digits of a number and the number of a run of digits are; proofs/ has the laws
-// that the one undoes the other.
+// Writing bytes, decimal numbers and eight hex digits into a lent buffer, in ASCII. Whatever the desk says goes through here.
 mod print;
 mod put;
 

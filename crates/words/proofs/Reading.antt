@@ -1,86 +1,169 @@
--- Reading a word from its first digit on: what is known after i digits, and what that comes to at the word's end.
+-- Reading a word from its first digit on: what is known after i digits, what that comes to at the word's end, and how large the
+-- number can be.
 use mathlib.Core.Path.{_≡_, refl, sym, ap, _∙_, subst}
+use mathlib.Core.Bool.{cond}
 use mathlib.Core.List.{List, [], _∷_}
 use Prim.Native.Nat.{ℕ, zero, suc, _+_, _*_, _-_, _^_, _≤_, _<_, min}
-use native.Mathlib.Nat.{pow-suc, lt-of-lt-of-le, pow-le-pow-right}
+use native.Mathlib.Nat.{pow-suc, lt-of-lt-of-le, pow-le-pow-right, add-zero}
 use native.Mathlib.Numerals.{add-one}
+use native.Mathlib.Decide.{decLt}
 use native.Mathlib.Omega.{arith}
-use borrow.Author.Count.{below-more}
-use lib.Dec.{lit<}
-use lib.ListN.{length, getD, take}
-use lib.Seq.{take-all}
-use Rattle.text.specs.Digits.{digitOf, AllDigits, value as valueOf}
-use Rattle.words.specs.Reading.{Decimal, HexWord}
+use borrow.Author.Tests.{lt-ltb, le-ltb, ltb-true, eq-eqb, ne-eqb, eqb-true}
+use lib.Dec.{lit<, ltb, eqb}
+use lib.ListN.{length, getD, drop, drop-of-length-le}
+use lib.Seq.{drop-cons}
+use Rattle.words.proofs.Choosing.{chosen, never}
+use Rattle.words.specs.Reading.{digitOf, decimalAfter, decimalOf, hexAfter, hexOf}
+use Rattle.words.specs.declared.read.Number.{Number}
 use Rattle.words.specs.declared.read.Number.the-variants as Number
+use Rattle.words.specs.declared.read.Hex.{Hex}
 use Rattle.words.specs.declared.read.Hex.the-variants as Hex
-use Rattle.text.proofs.Digit.{decimal}
-use Rattle.text.proofs.Value.{value-none, value-more}
 
-pub no-bytes : (word : List ℕ) → length word ≡ 0 → word ≡ []
-no-bytes [] h = refl
-no-bytes (c ∷ word) h = absurd (omega arith)
+-- what the ranges of bytes stand for
+pub below-0 : (c : ℕ) → c < 48 → 16 ≡ digitOf c
+unfolding digitOf
+below-0 c h = simp (lt-ltb c 48 h)
 
--- the first i bytes are digits in base b
-abbrev Digits : ℕ → List ℕ → ℕ → Type 0
-Digits b word i = (k : ℕ) → k < i → digitOf (getD word k 0) < b
+pub from-0 : (c : ℕ) → 48 ≤ c → c < 58 → c - 48 ≡ digitOf c
+unfolding digitOf
+from-0 c h k = simp (le-ltb c 48 h, lt-ltb c 58 k)
 
--- in decimal the value is held at 2 ^ 32
+pub past-9 : (c : ℕ) → 58 ≤ c → c < 65 → 16 ≡ digitOf c
+unfolding digitOf
+past-9 c h k = simp (le-ltb c 48 (omega arith), le-ltb c 58 h, lt-ltb c 65 k)
+
+pub from-A : (c : ℕ) → 65 ≤ c → c < 71 → c - 55 ≡ digitOf c
+unfolding digitOf
+from-A c h k = simp (le-ltb c 48 (omega arith), le-ltb c 58 (omega arith), le-ltb c 65 h, lt-ltb c 71 k)
+
+pub past-F : (c : ℕ) → 71 ≤ c → c < 97 → 16 ≡ digitOf c
+unfolding digitOf
+past-F c h k = simp (le-ltb c 48 (omega arith), le-ltb c 58 (omega arith), le-ltb c 65 (omega arith), le-ltb c 71 h, lt-ltb c 97 k)
+
+pub from-a : (c : ℕ) → 97 ≤ c → c < 103 → c - 87 ≡ digitOf c
+unfolding digitOf
+from-a c h k = simp (le-ltb c 48 (omega arith), le-ltb c 58 (omega arith), le-ltb c 65 (omega arith), le-ltb c 71 (omega arith), le-ltb c 97 h, lt-ltb c 103 k)
+
+pub past-f : (c : ℕ) → 103 ≤ c → 16 ≡ digitOf c
+unfolding digitOf
+past-f c h = simp (le-ltb c 48 (omega arith), le-ltb c 58 (omega arith), le-ltb c 65 (omega arith), le-ltb c 71 (omega arith), le-ltb c 97 (omega arith), le-ltb c 103 h)
+
+pub no-decimal : (word : List ℕ) → length word ≡ 0 → Number.Empty ≡ decimalOf word
+unfolding decimalOf
+no-decimal [] h = refl
+no-decimal (c ∷ word) h = absurd (omega arith)
+
+some-decimal : (word : List ℕ) → 0 < length word → decimalOf word ≡ decimalAfter 0 word
+unfolding decimalOf
+some-decimal [] h = absurd (omega arith)
+some-decimal (c ∷ word) h = refl
+
+-- from 2 ^ 32 on it does not matter by how much a number is too large
+too-large : (u v : ℕ) (word : List ℕ) → 2 ^ 32 ≤ u → 2 ^ 32 ≤ v → decimalAfter u word ≡ decimalAfter v word
+too-large u v [] h k = simp (le-ltb u (2 ^ 32) h, le-ltb v (2 ^ 32) k)
+too-large u v (c ∷ word) h k = ap (λ (n : Number). cond (ltb (digitOf c) 10) n Number.NotADigit) (too-large (u * 10 + digitOf c) (v * 10 + digitOf c) word (omega arith) (omega arith))
+
+held : (v next : ℕ) (word : List ℕ) → next ≡ min v (2 ^ 32) → decimalAfter next word ≡ decimalAfter v word
+held v next word e = elim (decLt v (2 ^ 32)) [
+  | yes h ↦ let same : next ≡ v = omega arith in ap (λ (n : ℕ). decimalAfter n word) same
+  | no h ↦ too-large next v word (omega arith) (omega arith)
+]
+
+-- the value of the first i digits, held at 2 ^ 32, and the rest of the word stand for what the word stands for
 pub record DecimalTo (word : List ℕ) (i value : ℕ) : Type 0 where
+  pub some : 0 < length word
   pub within : i ≤ length word
-  pub all : Digits 10 word i
-  pub held : value ≡ min (valueOf 10 (take i word)) (2 ^ 32)
+  pub small : value ≤ 2 ^ 32
+  pub rest : decimalAfter value (drop i word) ≡ decimalOf word
 
-pub decimal-none : (word : List ℕ) → DecimalTo word 0 0
-decimal-none word = record { within = omega arith; all = λ k h. absurd (omega arith); held = omega (arith, value-none 10) }
+pub decimal-none : (word : List ℕ) → 0 < length word → DecimalTo word 0 0
+decimal-none word h = record { some = h; within = omega arith; small = omega arith; rest = sym (some-decimal word h) }
 
-pub decimal-more : {word : List ℕ} {i value : ℕ} (next : ℕ) → DecimalTo word i value → i < length word → 48 ≤ getD word i 0 → getD word i 0 ≤ 57 → next ≡ min (value * 10 + (getD word i 0 - 48)) (2 ^ 32) → DecimalTo word (i + 1) next
-decimal-more {word} {i} {value} next s h low high e =
-    record {
-      within = omega arith;
-      all = below-more (λ (k : ℕ). digitOf (getD word k 0) < 10) i (s .all) (omega (arith, is));
-      held = omega (arith, s .held, value-more 10 word i h, is);
-    }
-  where
-    is : digitOf (getD word i 0) ≡ getD word i 0 - 48
-    is = decimal (getD word i 0) low (omega arith)
+module _ {word : List ℕ} {i value : ℕ} (s : DecimalTo word i value) where
+  pub decimal-bad : i < length word → 9 < digitOf (getD word i 0) → Number.NotADigit ≡ decimalOf word
+  decimal-bad h bad = simp (le-ltb (digitOf (getD word i 0)) 10 bad) at (rw (drop-cons word i 0 h) at (s .rest))
 
-whole : (word : List ℕ) (i : ℕ) → length word ≤ i → valueOf 10 (take i word) ≡ valueOf 10 word
-whole word i h = ap (valueOf 10) (take-all i word h)
+  pub decimal-more : (next : ℕ) → i < length word → digitOf (getD word i 0) ≤ 9 → next ≡ min (value * 10 + digitOf (getD word i 0)) (2 ^ 32) → DecimalTo word (i + 1) next
+  decimal-more next h good e =
+      record {
+        some = s .some;
+        within = omega arith;
+        small = omega arith;
+        rest = held (value * 10 + digitOf (getD word i 0)) next (drop (i + 1) word) e ∙ step ∙ s .rest;
+      }
+    where
+      step : decimalAfter (value * 10 + digitOf (getD word i 0)) (drop (i + 1) word) ≡ decimalAfter value (drop i word)
+      step = rw (add-one, drop-cons word i 0 h) (simp (lt-ltb (digitOf (getD word i 0)) 10 (omega arith)))
 
-all-of : (b : ℕ) (word : List ℕ) (i : ℕ) → length word ≤ i → Digits b word i → AllDigits b word
-all-of b word i h all k l = all k (omega arith)
+  pub decimal-number : length word ≤ i → value < 2 ^ 32 → Number.Value value ≡ decimalOf word
+  decimal-number h small = sym (simp (lt-ltb value (2 ^ 32) small)) ∙ ap (decimalAfter value) (sym (drop-of-length-le word h)) ∙ s .rest
 
-pub decimal-number : {word : List ℕ} {i value : ℕ} → DecimalTo word i value → 0 < length word → length word ≤ i → value < 2 ^ 32 → Decimal word (Number.Value value)
-decimal-number {word} {i} {value} s some h small = subst (λ (v : ℕ). Decimal word (Number.Value v)) (sym is) (Decimal.number some (all-of 10 word i h (s .all)) (omega (arith, is)))
-  where
-    is : value ≡ valueOf 10 word
-    is = omega (arith, s .held, whole word i h)
+  pub decimal-large : length word ≤ i → 2 ^ 32 ≤ value → Number.TooLarge ≡ decimalOf word
+  decimal-large h large = sym (simp (le-ltb value (2 ^ 32) large)) ∙ ap (decimalAfter value) (sym (drop-of-length-le word h)) ∙ s .rest
 
-pub decimal-large : {word : List ℕ} {i value : ℕ} → DecimalTo word i value → length word ≤ i → 2 ^ 32 ≤ value → Decimal word Number.TooLarge
-decimal-large {word} {i} s h large = Decimal.too-large (all-of 10 word i h (s .all)) (omega (arith, s .held, whole word i h))
+decimal-after-below : (v : ℕ) (word : List ℕ) {u : ℕ} → decimalAfter v word ≡ Number.Value u → u < 2 ^ 32
+decimal-after-below v [] {u} e = chosen (ltb v (2 ^ 32)) (λ t q. let same : v ≡ u = cc in omega (arith, ltb-true v (2 ^ 32) t)) (λ f q. never (cc)) e
+decimal-after-below v (c ∷ word) e = chosen (ltb (digitOf c) 10) (λ t q. decimal-after-below (v * 10 + digitOf c) word q) (λ f q. never (cc)) e
 
--- in hex eight digits fit 32 bits
+pub decimal-below : (word : List ℕ) {u : ℕ} → decimalOf word ≡ Number.Value u → u < 2 ^ 32
+unfolding decimalOf
+decimal-below [] e = never (cc)
+decimal-below (c ∷ word) e = decimal-after-below 0 (c ∷ word) e
+
+-- in hex
+pub no-hex : (word : List ℕ) → length word ≡ 0 → Hex.Empty ≡ hexOf word
+unfolding hexOf
+no-hex [] h = refl
+no-hex (c ∷ word) h = absurd (omega arith)
+
+pub not-eight : (word : List ℕ) → 0 < length word → (length word ≡ 8 → ⊥) → Hex.NotEightDigits ≡ hexOf word
+unfolding hexOf
+not-eight [] h n = absurd (omega arith)
+not-eight (c ∷ word) h n = simp (ne-eqb (length (c ∷ word)) 8 n)
+
+eight : (word : List ℕ) → length word ≡ 8 → hexOf word ≡ hexAfter 0 word
+unfolding hexOf
+eight [] h = absurd (omega arith)
+eight (c ∷ word) h = simp (eq-eqb (length (c ∷ word)) 8 h)
+
+-- one digit more
+more-digits : (n v d : ℕ) → v < 16 ^ n → d < 16 → v * 16 + d < 16 ^ (n + 1)
+more-digits n v d h l = subst (λ (m : ℕ). v * 16 + d < m) (sym (pow-suc 16 n) ∙ ap (λ (m : ℕ). 16 ^ m) (sym (add-one n))) (omega arith)
+
 pub record HexTo (word : List ℕ) (i value : ℕ) : Type 0 where
   pub within : i ≤ length word
-  pub all : Digits 16 word i
-  pub value-is : value ≡ valueOf 16 (take i word)
   pub below : value < 16 ^ i
+  pub rest : hexAfter value (drop i word) ≡ hexOf word
 
-pub hex-none : (word : List ℕ) → HexTo word 0 0
-hex-none word = record { within = omega arith; all = λ k h. absurd (omega arith); value-is = sym (value-none 16); below = omega arith }
+pub hex-none : (word : List ℕ) → length word ≡ 8 → HexTo word 0 0
+hex-none word h = record { within = omega arith; below = omega arith; rest = sym (eight word h) }
 
-pub hex-small : {word : List ℕ} {i value : ℕ} → HexTo word i value → i < 8 → value < 2 ^ 28
-hex-small {i = i} s h = lt-of-lt-of-le (s .below) (pow-le-pow-right {n = 16} (lit< tt) {j = 7} (omega arith))
+module _ {word : List ℕ} {i value : ℕ} (s : HexTo word i value) where
+  pub hex-small : i < 8 → value < 2 ^ 28
+  hex-small h = lt-of-lt-of-le (s .below) (pow-le-pow-right {n = 16} (lit< tt) {j = 7} (omega arith))
 
-pub hex-more : {word : List ℕ} {i value : ℕ} (d : ℕ) → HexTo word i value → i < length word → d ≡ digitOf (getD word i 0) → d ≤ 15 → HexTo word (i + 1) (value * 16 + d)
-hex-more {word} {i} {value} d s h e l =
-    record {
-      within = omega arith;
-      all = below-more (λ (k : ℕ). digitOf (getD word k 0) < 16) i (s .all) (omega arith);
-      value-is = omega (arith, s .value-is, value-more 16 word i h);
-      below = subst (λ (m : ℕ). value * 16 + d < m) (sym (pow-suc 16 i) ∙ ap (λ (m : ℕ). 16 ^ m) (sym (add-one i))) (omega (arith, s .below));
-    }
+  pub hex-bad : i < length word → 15 < digitOf (getD word i 0) → Hex.NotEightDigits ≡ hexOf word
+  hex-bad h bad = simp (le-ltb (digitOf (getD word i 0)) 16 bad) at (rw (drop-cons word i 0 h) at (s .rest))
 
-pub hex-number : {word : List ℕ} {i value : ℕ} → HexTo word i value → length word ≡ 8 → length word ≤ i → HexWord word (Hex.Value value)
-hex-number {word} {i} s eight h =
-    subst (λ (v : ℕ). HexWord word (Hex.Value v)) (sym (s .value-is ∙ ap (valueOf 16) (take-all i word h))) (HexWord.number eight (all-of 16 word i h (s .all)))
+  pub hex-more : (d : ℕ) → i < length word → d ≡ digitOf (getD word i 0) → d ≤ 15 → HexTo word (i + 1) (value * 16 + d)
+  hex-more d h e good = record { within = omega arith; below = more-digits i value d (s .below) (omega arith); rest = step ∙ s .rest }
+    where
+      step : hexAfter (value * 16 + d) (drop (i + 1) word) ≡ hexAfter value (drop i word)
+      step = rw (add-one, drop-cons word i 0 h, e) (simp (lt-ltb (digitOf (getD word i 0)) 16 (omega arith)))
+
+  pub hex-number : length word ≤ i → Hex.Value value ≡ hexOf word
+  hex-number h = ap (hexAfter value) (sym (drop-of-length-le word h)) ∙ s .rest
+
+hex-after-below : (n v : ℕ) (word : List ℕ) {u : ℕ} → v < 16 ^ n → hexAfter v word ≡ Hex.Value u → u < 16 ^ (n + length word)
+hex-after-below n v [] {u} h e = let same : v ≡ u = cc in subst (λ (m : ℕ). u < 16 ^ m) (sym (add-zero n)) (omega arith)
+hex-after-below n v (c ∷ word) {u} h e =
+    chosen (ltb (digitOf c) 16) (λ t q. subst (λ (m : ℕ). u < 16 ^ m) longer (hex-after-below (n + 1) (v * 16 + digitOf c) word (more-digits n v (digitOf c) h (ltb-true (digitOf c) 16 t)) q)) (λ f q. never (cc)) e
+  where
+    longer : n + 1 + length word ≡ n + suc (length word)
+    longer = omega arith
+
+pub hex-below : (word : List ℕ) {u : ℕ} → hexOf word ≡ Hex.Value u → u < 2 ^ 32
+unfolding hexOf
+hex-below [] e = never (cc)
+hex-below (c ∷ word) {u} e =
+    chosen (eqb (length (c ∷ word)) 8) (λ t q. subst (λ (m : ℕ). u < 16 ^ (0 + m)) (eqb-true (length (c ∷ word)) 8 t) (hex-after-below 0 0 (c ∷ word) (lit< tt) q)) (λ f q. never (cc)) e

@@ -3,16 +3,17 @@ use mathlib.Core.Path.{_≡_, refl, sym, ap, _∙_}
 use mathlib.Core.Bool.{Bool, true, false, cond}
 use mathlib.Core.List.{List, [], _∷_}
 use Prim.Native.Nat.{ℕ, zero, suc, _+_, _-_, _≤_, _<_, zero-le, suc-le-suc}
-use native.Mathlib.Nat.{le-of-suc-le-suc, add-zero}
+use native.Mathlib.Nat.{le-of-suc-le-suc}
 use native.Mathlib.Decide.{decLt}
 use native.Mathlib.Omega.{arith}
 use borrow.Author.Count.{below-more}
-use borrow.Author.Tests.{lt-ltb, le-ltb, eq-eqb, ne-eqb}
+use borrow.Author.Tests.{lt-ltb, le-ltb, eq-eqb, ne-eqb, eqb-true}
 use lib.Dec.{eqb, leb·suc-suc}
 use lib.ListN.{length, getD, take, drop, length-drop}
 use lib.Seq.{getD-drop, drop-drop}
 use Rattle.words.specs.declared.split.Placed.the-variants as Placed
-use Rattle.words.specs.Words.{before, words, wordsFrom, Until, Ends, part, Place}
+use Rattle.words.proofs.Choosing.{chosen, never}
+use Rattle.words.specs.Words.{before, words, wordsFrom, Until, Ends, part, equal, placeAfter, placeOf}
 
 pub within : (line : List ℕ) (from : ℕ) → from ≤ length line → wordsFrom line from ≡ words (drop from line)
 unfolding wordsFrom
@@ -86,43 +87,47 @@ a-cut {line} {from} {end} u =
 pub an-end : {line : List ℕ} {from end : ℕ} → Until line from 32 end → Ends line from end
 an-end u = record { begun = u .begun; inside = u .inside; one-word = a-cut u }
 
--- looking a word up: the first i names are not it, and the others stand from `from` on
+-- looking a word up
+equal-same : (word : List ℕ) → equal word word ≡ true
+equal-same [] = refl
+equal-same (c ∷ word) = simp (eq-eqb c c refl) (equal-same word)
+
+unless-both : (test : Bool) {x : Bool} → (test ≡ true → x ≡ false) → cond test x false ≡ false
+unless-both true h = h refl
+unless-both false h = refl
+
+not-equal : (word name : List ℕ) → (word ≡ name → ⊥) → equal word name ≡ false
+not-equal [] [] n = absurd (n refl)
+not-equal [] (d ∷ name) n = refl
+not-equal (c ∷ word) [] n = refl
+not-equal (c ∷ word) (d ∷ name) n = unless-both (eqb c d) (λ t. not-equal word name (λ q. n (let h = eqb-true c d t in cc)))
+
+-- the word is none of the first i names, and the others stand from `from` on
 pub record Looked (word line : List ℕ) (i from : ℕ) : Type 0 where
-  pub bound : i ≤ length (words line)
   pub small : i ≤ from
-  pub rest : wordsFrom line from ≡ drop i (words line)
-  pub not-yet : (j : ℕ) → j < i → getD (words line) j [] ≡ word → ⊥
+  pub rest : placeAfter i word (wordsFrom line from) ≡ placeOf word (words line)
 
 pub look : (word line : List ℕ) → Looked word line 0 0
-look word line = record { bound = zero-le; small = zero-le; rest = from-start line; not-yet = λ j h. absurd (omega arith) }
+unfolding placeOf
+look word line = record { small = zero-le; rest = ap (placeAfter 0 word) (from-start line) }
 
-module _ {word line : List ℕ} {i from : ℕ} (l : Looked word line i from) (w : List ℕ) (ws : List (List ℕ)) (e : wordsFrom line from ≡ w ∷ ws) where
-  this : drop i (words line) ≡ w ∷ ws
-  this = sym (l .rest) ∙ e
+module _ {word line : List ℕ} {i from : ℕ} (l : Looked word line i from) where
+  pub found : (w : List ℕ) (ws : List (List ℕ)) → wordsFrom line from ≡ w ∷ ws → word ≡ w → Placed.At i ≡ placeOf word (words line)
+  found w ws e same = sym (simp (e, sym same, equal-same word)) ∙ l .rest
 
-  some : i < length (words line)
-  some = omega (arith, length-drop i (words line), ap length this, l .bound)
+  pub look-on : (w : List ℕ) (next : ℕ) → wordsFrom line from ≡ w ∷ wordsFrom line next → from < next → (word ≡ w → ⊥) → Looked word line (i + 1) next
+  look-on w next e h other = record { small = omega (arith, l .small); rest = sym (simp (e, not-equal word w other)) ∙ l .rest }
 
-  name : getD (words line) i [] ≡ w
-  name = ap (λ (k : ℕ). getD (words line) k []) (sym (add-zero i)) ∙ sym (getD-drop i (words line) 0 []) ∙ ap (λ (ns : List (List ℕ)). getD ns 0 []) this
+  pub not-found : length line < from → Placed.Nowhere ≡ placeOf word (words line)
+  not-found h = sym (simp (past line from h)) ∙ l .rest
 
-  pub found : word ≡ w → Place word (words line) (Placed.At i)
-  found same = Place.here i some (name ∙ sym same) (l .not-yet)
+place-after-below : (i : ℕ) (word : List ℕ) (names : List (List ℕ)) {j : ℕ} → placeAfter i word names ≡ Placed.At j → j < i + length names
+place-after-below i word [] e = never (cc)
+place-after-below i word (name ∷ names) {j} e = chosen (equal word name) (λ t q. let same : i ≡ j = cc in omega arith) (λ f q. omega (arith, place-after-below (i + 1) word names q)) e
 
-  pub look-on : (next : ℕ) → from < next → wordsFrom line next ≡ ws → (word ≡ w → ⊥) → Looked word line (i + 1) next
-  look-on next h f other =
-      record {
-        bound = omega (arith, some);
-        small = omega (arith, l .small);
-        rest = f ∙ sym (ap (drop 1) this) ∙ drop-drop 1 i (words line);
-        not-yet = below-more (λ (j : ℕ). getD (words line) j [] ≡ word → ⊥) i (l .not-yet) (λ q. other (sym q ∙ name));
-      }
-
-pub not-found : {word line : List ℕ} {i from : ℕ} → Looked word line i from → length line < from → Place word (words line) Placed.Nowhere
-not-found {word} {line} {i} {from} l h = Place.nowhere (λ j k. l .not-yet j (omega (arith, all)))
-  where
-    all : i ≡ length (words line)
-    all = omega (arith, l .bound, length-drop i (words line), ap length (sym (l .rest) ∙ past line from h))
+pub place-below : (word : List ℕ) (names : List (List ℕ)) {j : ℕ} → placeOf word names ≡ Placed.At j → j < length names
+unfolding placeOf
+place-below word names e = omega (arith, place-after-below 0 word names e)
 
 -- there is a word wherever the line has not ended
 first-of : (line : List ℕ) → (w : List ℕ) × (ws : List (List ℕ)) × (words line ≡ w ∷ ws)
@@ -135,3 +140,20 @@ first-of (c ∷ line) = go (eqb c 32) (words line) (first-of line)
 
 pub a-word : (line : List ℕ) (from : ℕ) → from ≤ length line → (w : List ℕ) × (ws : List (List ℕ)) × (wordsFrom line from ≡ w ∷ ws)
 a-word line from h = let f = first-of (drop from line) in (f .0, f .1, within line from h ∙ f .2)
+
+-- the words after a line's first begin one past the space behind it
+pub next-words : (line word : List ℕ) (more : List (List ℕ)) → words line ≡ word ∷ more → wordsFrom line (length word + 1) ≡ more
+next-words [] word more e = let none : word ≡ [] = cc in let no-more : more ≡ [] = cc in rw (none, no-more) (past [] 1 (omega arith))
+next-words (c ∷ line) word more e =
+    let f = first-of line in chosen (eqb c 32) at-space (λ t q. within-word (f .0) (f .1) (f .2) (next-words line (f .0) (f .1) (f .2)) q) e
+  where
+    at-space : eqb c 32 ≡ true → [] ∷ words line ≡ word ∷ more → wordsFrom (c ∷ line) (length word + 1) ≡ more
+    at-space t q = let none : word ≡ [] = cc in let rest : words line ≡ more = cc in rw (none, ← rest) (shift c line 0 ∙ from-start line)
+
+    within-word : (w : List ℕ) (ws : List (List ℕ)) → words line ≡ w ∷ ws → wordsFrom line (length w + 1) ≡ ws → before c (words line) ≡ word ∷ more → wordsFrom (c ∷ line) (length word + 1) ≡ more
+    within-word w ws f n q =
+        let g : (c ∷ w) ∷ ws ≡ word ∷ more = sym (ap (before c) f) ∙ q in
+        let is : word ≡ c ∷ w = cc in
+        let rest : ws ≡ more = cc in
+        let past-it : suc (length w) + 1 ≡ suc (length w + 1) = omega arith in
+        rw (is, ← rest, past-it) (shift c line (length w + 1) ∙ n)

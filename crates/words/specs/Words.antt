@@ -1,7 +1,7 @@
 -- The words of a line: what stands between its spaces. Two spaces in a row, or one at either end, make an empty word.
 use Prim.Native.Nat.{ℕ, _+_, _-_, _≤_, _<_}
 use mathlib.Core.Path.{_≡_}
-use mathlib.Core.Bool.{cond}
+use mathlib.Core.Bool.{Bool, true, false, cond}
 use mathlib.Core.List.{List, [], _∷_}
 use lib.Dec.{eqb, ltb}
 use lib.ListN.{length, getD, take, drop}
@@ -38,7 +38,16 @@ pub record Ends (line : List ℕ) (from end : ℕ) : Type 0 where
   pub inside : end ≤ length line
   pub one-word : wordsFrom line from ≡ part line from end ∷ wordsFrom line (end + 1)
 
--- the first place of a word among names, or that it is none of them
-pub data Place (word : List ℕ) (names : List (List ℕ)) : Placed → Type 0 where
-  here : (i : ℕ) → i < length names → getD names i [] ≡ word → ((j : ℕ) → j < i → getD names j [] ≡ word → ⊥) → Place word names (Placed.At i)
-  nowhere : ((j : ℕ) → j < length names → getD names j [] ≡ word → ⊥) → Place word names Placed.Nowhere
+abbrev pub equal : List ℕ → List ℕ → Bool
+equal [] [] = true
+equal [] (d ∷ name) = false
+equal (c ∷ word) [] = false
+equal (c ∷ word) (d ∷ name) = cond (eqb c d) (equal word name) false
+
+-- the first place of a word among names, the first of which has place i
+abbrev pub placeAfter : ℕ → List ℕ → List (List ℕ) → Placed
+placeAfter i word [] = Placed.Nowhere
+placeAfter i word (name ∷ names) = cond (equal word name) (Placed.At i) (placeAfter (i + 1) word names)
+
+unfoldable pub placeOf : List ℕ → List (List ℕ) → Placed
+placeOf word names = placeAfter 0 word names

@@ -1,8 +1,7 @@
 // The number that a word stands for.
 ghost use mathlib.Core.Path.{_≡_};
-ghost use Prim.Native.Nat.{_+_, _*_, _-_, _≤_, _<_, _^_, min};
-ghost use Rattle.text.specs.Digits.{digitOf};
-ghost use Rattle.words.specs.Reading.{Decimal, HexWord};
+ghost use Prim.Native.Nat.{_+_, _*_, _≤_, _^_, min};
+ghost use Rattle.words.specs.Reading.{digitOf, decimalOf, hexOf};
 
 pub enum Number {
     Value(u32),
@@ -19,7 +18,7 @@ pub enum Hex {
 
 // One or more decimal digits, with or without zeros in front: the value has to fit, not the word.
 pub fn read_decimal(word: &[u8]) -> Number
-    ensures { λ r. ⌜ Decimal (now (word .entry)) r ⌝ }
+    ensures { λ r. ⌜ r ≡ decimalOf (now (word .entry)) ⌝ }
 {
     if word.len() == 0 {
         return Number::Empty;
@@ -27,14 +26,11 @@ pub fn read_decimal(word: &[u8]) -> Number
     let mut value: u64 = 0;
     let mut i = 0;
     while i < word.len() {
-        let c = word[i];
-        if c < 48 {
+        let d = digit(word[i]);
+        if 9 < d {
             return Number::NotADigit;
         }
-        if 57 < c {
-            return Number::NotADigit;
-        }
-        value = appended(value, c);
+        value = appended(value, d);
         i += 1;
     }
     if value < 4294967296 {
@@ -45,17 +41,17 @@ pub fn read_decimal(word: &[u8]) -> Number
 }
 
 // The value with one decimal digit more, held at 2^32 from there on: enough to know that it is too large.
-fn appended(value: u64, c: u8) -> u64
-    requires { ⌜ (value ≤ 2 ^ 32) × (48 ≤ c) × (c ≤ 57) ⌝ }
-    ensures { λ r. ⌜ r ≡ min (value * 10 + (c - 48)) (2 ^ 32) ⌝ }
+fn appended(value: u64, digit: u32) -> u64
+    requires { ⌜ (value ≤ 2 ^ 32) × (digit ≤ 9) ⌝ }
+    ensures { λ r. ⌜ r ≡ min (value * 10 + digit) (2 ^ 32) ⌝ }
 {
-    let more = value * 10 + (c - 48) as u64;
+    let more = value * 10 + digit as u64;
     if more < 4294967296 { more } else { 4294967296 }
 }
 
 // Eight hex digits, in either case.
 pub fn read_hex(word: &[u8]) -> Hex
-    ensures { λ r. ⌜ HexWord (now (word .entry)) r ⌝ }
+    ensures { λ r. ⌜ r ≡ hexOf (now (word .entry)) ⌝ }
 {
     if word.len() == 0 {
         return Hex::Empty;

@@ -4,7 +4,7 @@ use check::same;
 ghost use mathlib.Core.Path.{_≡_};
 ghost use lib.ListN.{length};
 ghost use Rattle.bounds.specs.Within.{Within};
-ghost use Rattle.words.specs.Words.{words, Until, Ends, Place};
+ghost use Rattle.words.specs.Words.{words, Until, Ends, placeOf};
 
 // The first place of a byte from `from` on, or the end. Past the end there is nothing to look for: it answers `from`.
 pub fn until(line: &[u8], from: usize, byte: u8) -> usize
@@ -35,7 +35,7 @@ pub enum Placed {
 
 // Which of the names, given as the words of one line, the word is.
 pub fn place(word: &[u8], names: &[u8]) -> Placed
-    ensures { λ r. ⌜ Place (now (word .entry)) (words (now (names .entry))) r ⌝ }
+    ensures { λ r. ⌜ r ≡ placeOf (now (word .entry)) (words (now (names .entry))) ⌝ }
 {
     let mut i = 0;
     let mut from = 0;

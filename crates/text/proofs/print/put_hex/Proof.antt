@@ -1,48 +1,24 @@
--- `text::print::put_hex` meets its contract.
-use borrow.Author.Needs.{needs}
+-- `text::print::put_hex` meets its contract: the digits that the kit made are copied in.
+use mathlib.Core.Path.{_∙_}
 use native.Mathlib.Omega.{arith}
-use Rattle.text.proofs.Spelling.{length-hex}
-use Rattle.text.proofs.Writing.{room, no-room}
+use borrow.Author.Needs.{needs}
+use Rattle.text.proofs.Digits.{hex-spelt}
+use Rattle.text.proofs.Writing.{same-text}
 use Rattle.text.proofs.print.put_hex.Statement.{statement}
 use Rattle.text.proofs.print.put_hex.Tie as tie
 
-add-result : tie.Need-add-result
-add-result c = search needs
-
 returns : tie.Need-returns
-returns c = no-room _ _ _ (omega (arith, length-hex (c .before .before .args .n)))
-
-sub-if2 : tie.Need-sub-if2
-sub-if2 c = search needs
-
-add-result-2 : tie.Need-add-result-2
-add-result-2 c = search needs
-
-returns-2 : tie.Need-returns-2
-returns-2 c = no-room _ _ _ (omega (arith, length-hex (c .before .before .before .args .n)))
-
-spell-hex-requires : tie.Need-spell-hex-requires
-spell-hex-requires c κs = search needs
-
-add-result-3 : tie.Need-add-result-3
-add-result-3 c = search needs
-
-same-length : tie.Need-same-length
-same-length c = search needs
-
-returns-3 : tie.Need-returns-3
-returns-3 c = room _ _ _ _ _ (omega arith) (length-hex _) (c .before .before .spell-hex .ensures)
+returns c =
+    let made = c .before .before .before .before .before .hex .ensures in
+    same-text (made .1 .1 ∙ hex-spelt _ _ (omega arith) (made .1 .0)) (c .before .before .put-bytes .ensures)
 
 pub put-hex-spec : {M : Type 1} → statement M
 put-hex-spec =
     tie.close
     (tie.spec
-    add-result
-    returns
-    sub-if2
-    add-result-2
-    returns-2
-    spell-hex-requires
-    add-result-3
-    same-length
-    returns-3)
+    (λ c κs. search needs)
+    (λ c. search needs)
+    (λ c. search needs)
+    (λ c κs. search needs)
+    (λ c. search needs)
+    returns)

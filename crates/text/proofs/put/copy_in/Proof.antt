@@ -16,31 +16,10 @@ Inv-loop text out₀ at i₀ out i = (i ≤ length text) × (out ≡ paste out�
 abbrev μ-loop : tie.MeasureT-loop
 μ-loop text out₀ at i₀ out i = length text - i
 
-loop-holds : tie.Need-loop-holds Inv-loop μ-loop
-loop-holds c = (omega arith, paste-zero (now (c .args .out)) (c .args .at) (now (c .args .text)), omega arith)
-
-shared-slice-read-out : tie.Need-shared-slice-read-out Inv-loop μ-loop
-shared-slice-read-out c = omega arith
-
-add-out : tie.Need-add-out Inv-loop μ-loop
-add-out c = omega arith
-
-slice-write-out : tie.Need-slice-write-out Inv-loop μ-loop
-slice-write-out c = omega arith
-
-add-i : tie.Need-add-i Inv-loop μ-loop
-add-i c = omega arith
-
-loop-less : tie.Need-loop-less Inv-loop μ-loop
-loop-less c = omega arith
-
 loop-again : tie.Need-loop-again Inv-loop μ-loop
 loop-again c =
     let l = c .before .before in
     (omega arith, copied-more _ _ _ _ (l .loop .out) (l .before .pre) (c .before .loop-test .taken) (l .loop .inv .1), simp length-set (omega arith))
-
-same-length : tie.Need-same-length Inv-loop μ-loop
-same-length c = c .before .loop .inv .2
 
 returns : tie.Need-returns Inv-loop μ-loop
 returns c =
@@ -48,4 +27,17 @@ returns c =
     l .loop .inv .1 ∙ ap (λ (n : ℕ). paste (now (l .before .args .out)) (l .before .args .at) (now (l .before .args .text)) n) (le-antisymm (l .loop .inv .0) (c .loop-test .left))
 
 pub copy-in-spec : {M : Type 1} → statement M
-copy-in-spec = tie.close (tie.spec Inv-loop μ-loop loop-holds shared-slice-read-out add-out slice-write-out add-i loop-less loop-again same-length returns)
+copy-in-spec =
+    tie.close
+    (tie.spec
+    Inv-loop
+    μ-loop
+    (λ c. (omega arith, paste-zero (now (c .args .out)) (c .args .at) (now (c .args .text)), omega arith))
+    (λ c. omega arith)
+    (λ c. omega arith)
+    (λ c. omega arith)
+    (λ c. omega arith)
+    (λ c. omega arith)
+    loop-again
+    (λ c. c .before .loop .inv .2)
+    returns)

@@ -14,20 +14,8 @@ Inv-loop line from byte at₀ at = Within from (length line) (Passed line from b
 abbrev μ-loop : tie.MeasureT-loop
 μ-loop line from byte at₀ at = length line - at
 
-loop-holds : tie.Need-loop-holds Inv-loop μ-loop
-loop-holds c = record { fits = λ h. begin _ _ _ h; full = λ _. refl }
-
-shared-slice-read-if1 : tie.Need-shared-slice-read-if1 Inv-loop μ-loop
-shared-slice-read-if1 c = omega arith
-
 returns : tie.Need-returns Inv-loop μ-loop
 returns c = let inv = c .before .before .before .loop .inv in record { fits = λ h. stop (inv .fits h) (λ _. c .if1 .taken); full = inv .full }
-
-add-at : tie.Need-add-at Inv-loop μ-loop
-add-at c = omega arith
-
-loop-less : tie.Need-loop-less Inv-loop μ-loop
-loop-less c = omega arith
 
 loop-again : tie.Need-loop-again Inv-loop μ-loop
 loop-again c =
@@ -43,10 +31,10 @@ until-spec =
     (tie.spec
     Inv-loop
     μ-loop
-    loop-holds
-    shared-slice-read-if1
+    (λ c. record { fits = λ h. begin _ _ _ h; full = λ _. refl })
+    (λ c. omega arith)
     returns
-    add-at
-    loop-less
+    (λ c. omega arith)
+    (λ c. omega arith)
     loop-again
     returns-2)

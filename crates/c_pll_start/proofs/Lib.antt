@@ -1,0 +1,3 @@
+pub mod Again
+pub mod Starts
+pub mod Stepped

@@ -1,2 +1,0 @@
-pub mod Gem
-pub mod Requests

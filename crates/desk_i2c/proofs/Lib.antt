@@ -1,1 +1,0 @@
-pub mod I2c

@@ -1,2 +1,0 @@
-pub mod Reading
-pub mod Replying

@@ -1,0 +1,44 @@
+-- A request is a row of the desk's table: its name, the shape of its words, what it says, its line of help.
+use Prim.Native.Nat.{ℕ}
+use Prim.Native.String.{String}
+use mathlib.Core.List.{List, [], _∷_, _++_}
+use Rattle.refusals.specs.Told.{Told, answered, refused}
+use Rattle.text.specs.Bytes.{bytes}
+use Rattle.forms.specs.Form.{printed}
+use Rattle.shapes.specs.declared.fields.Fault.{Fault}
+use Rattle.shapes.specs.declared.fields.Fault.the-variants as Fault
+use Rattle.desk_calls.specs.Calls.{Call}
+
+-- `says` is about the numbers that were read by the shape, and the text of the answer
+pub record Request : Type 1 where
+  pub name : String
+  pub shape : String
+  pub says : List ℕ → List ℕ → Type 0
+  pub help : String
+
+-- a refusal in print, and behind it what it carries
+abbrev pub refusal : ℕ → List ℕ → List ℕ
+refusal n [] = printed (bytes "refused #") (n ∷ [])
+refusal n (c ∷ cs) = printed (bytes "refused # #") (n ∷ c ∷ [])
+
+-- what a call tells, in print: its words by the row's form, or the refusal
+pub data Spoken (form : List ℕ) (Tells : Told (List ℕ) → Type 0) : List ℕ → Type 0 where
+  answer : {words : List ℕ} → Tells (answered words) → Spoken form Tells (printed form words)
+  refuses : {n : ℕ} {carried : List ℕ} → Tells (refused n carried) → Spoken form Tells (refusal n carried)
+
+-- a row for a call. The form's words are those that the call tells; `_` in a form is a space.
+abbrev pub call : String → String → String → Call → String → Request
+call name shape form tells help = record { name = name; shape = shape; says = λ n. Spoken (bytes form) (tells n); help = help }
+
+-- what is wrong with which word of a line
+abbrev pub wrong : Fault → String
+wrong Fault.Missing = "bad line: word # is missing"
+wrong Fault.Empty = "bad line: word # is empty"
+wrong Fault.NotANumber = "bad line: word # is not a number"
+wrong Fault.TooLarge = "bad line: word # is too large"
+wrong Fault.NotEightDigits = "bad line: word # is not 8 hex digits"
+wrong Fault.OneTooMany = "bad line: word # is one too many"
+wrong Fault.NoSuchName = "bad line: word # is not a name known here"
+
+unfoldable pub complaint : ℕ → Fault → List ℕ
+complaint word fault = printed (bytes (wrong fault)) (word ∷ [])

@@ -1,3 +1,0 @@
-pub mod HexWords
-pub mod Printed
-pub mod Requests

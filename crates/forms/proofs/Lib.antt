@@ -1,0 +1,3 @@
+pub mod Saying
+pub mod Printing
+pub mod Telling

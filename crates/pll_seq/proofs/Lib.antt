@@ -1,0 +1,5 @@
+pub mod Few
+pub mod Front
+pub mod Moved
+pub mod ToCome
+pub mod Unique

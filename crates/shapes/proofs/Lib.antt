@@ -1,0 +1,4 @@
+pub mod Field
+pub mod Laws
+pub mod Naming
+pub mod Reading

@@ -1,0 +1,3 @@
+pub mod Field
+pub mod Named
+pub mod Shape
