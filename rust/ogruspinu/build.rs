@@ -2,7 +2,6 @@
 //! none the crate is empty, and a warning says what is missing. A crate that is not proved is an error.
 use std::env;
 use std::fs;
-use std::io::ErrorKind;
 use std::path::{Path, PathBuf};
 use std::process::Command;
 use std::time::SystemTime;
@@ -10,6 +9,8 @@ use std::time::SystemTime;
 /// The Rattle crate whose functions are exported, and its file under the repository's top.
 const CRATE: &str = "archive";
 const FILE: &str = "target/staticlib/libarchive.a";
+/// Makes it, for this machine's own processor.
+const SCRIPT: &str = "rust/archive";
 
 fn main() {
     println!("cargo::rustc-check-cfg=cfg(archive)");
@@ -18,6 +19,7 @@ fn main() {
     let top = here.join("../..");
     let (crates, file) = (top.join("crates"), top.join(FILE));
     watch(&crates);
+    watch(&top.join(SCRIPT));
     watch(&file);
     if crates.join(CRATE).is_dir() && changed(&file) <= changed(&crates) {
         make(&top);
@@ -25,8 +27,8 @@ fn main() {
     match file.canonicalize() {
         Ok(file) => link(&file),
         Err(_) => println!(
-            "cargo::warning=there is no {FILE}: `rt staticlib {CRATE}` makes it at the repository's top, with the \
-             Rattle toolchain on PATH. What needs it is left out."
+            "cargo::warning=there is no {FILE}: {SCRIPT} makes it, with the Rattle toolchain on PATH. What needs it is \
+             left out."
         ),
     }
 }
@@ -45,22 +47,19 @@ fn changed(path: &Path) -> Option<SystemTime> {
 
 /// Proves and compiles the crate. Without `rt` an archive that lies there is taken as it is.
 fn make(top: &Path) {
-    let command = format!("rt staticlib {CRATE}");
-    let run = Command::new("rt")
-        .args(["staticlib", CRATE])
-        .current_dir(top)
-        .output();
-    match run {
+    if Command::new("rt").arg("version").output().is_err() {
+        println!("cargo::warning=there is no `rt` on PATH: {FILE} is not made anew");
+        return;
+    }
+    match Command::new(top.join(SCRIPT)).output() {
         Ok(done) if done.status.success() => {}
         Ok(done) => {
-            let said = String::from_utf8_lossy(&done.stdout);
+            let said = [done.stdout, done.stderr].concat();
+            let said = String::from_utf8_lossy(&said);
             let last = said.lines().last().unwrap_or("it said nothing");
-            println!("cargo::error=`{command}` failed: {last}");
+            println!("cargo::error={SCRIPT} failed: {last}");
         }
-        Err(why) if why.kind() == ErrorKind::NotFound => {
-            println!("cargo::warning=there is no `rt` on PATH: {FILE} is not made anew");
-        }
-        Err(why) => println!("cargo::error=`{command}` cannot be run: {why}"),
+        Err(why) => println!("cargo::error={SCRIPT} cannot be run: {why}"),
     }
 }
 
