@@ -8,10 +8,12 @@
  *
  * A call that can refuse returns 64 bits. ogr_number() of them is 0 for an answer, else the refusal's number. ogr_carried() of them is
  * what the refusal carries, 0 where it carries nothing, or the answer itself where that is a single number. Any longer answer stands
- * at the front of the lent row `out`, and what lies behind it stays as it was.
+ * at the front of the lent row `out`, and what lies behind it stays as it was. The calls of the PLL sequence return a struct instead,
+ * whose `refusal` is 0 or the number.
  *
  * A refusal writes nothing. A row `out` that is too short is refused before anything else is looked at: OGR_NO_ROOM, which carries the
- * words needed. So `out_len` 0 asks how long a row has to be.
+ * words needed. So `out_len` 0 asks how long a row has to be. ogr_gem looks at the row of clocks before that, and rows whose length
+ * depends on what is asked (ogr_uart_list, ogr_pll_seq) have their own order.
  */
 #ifndef OGRUSPINU_H
 #define OGRUSPINU_H
@@ -39,6 +41,13 @@ enum ogr_refusal {
     OGR_LOCK_TIMEOUT = 11, /* the PLL is unlocked at the last allowed poll */
     OGR_BAD_LIMIT = 12,    /* the poll limit is 0 */
     OGR_ALREADY = 13,      /* a once-only PLL start is repeated */
+    /* 14 to 19 are document 02's; no call here gives them yet. */
+    OGR_ZERO_CLOCK = 14,   /* the crystal is 0 where ratios are asked for */
+    OGR_BAD_SETTINGS = 15, /* a settings record breaks a rule; carries the offset */
+    OGR_NEWER = 16,        /* a settings record of a later version */
+    OGR_NOT_YOURS = 17,    /* a word that the party does not hold, or cannot claim */
+    OGR_BAD_ROWS = 18,     /* rows of lengths that do not belong together */
+    OGR_TRACE_LONG = 19,   /* a part would make its trace too long */
     OGR_BAD_FIELD = 20     /* a number does not fit its field, or there is no such PLL or IO clock */
 };
 
@@ -60,7 +69,7 @@ enum ogr_module {
     OGR_MODULE_GEM1
 };
 
-/* Where an evaluation's row has which clock, in Hertz but for the CPU's ratio and the last word. */
+/* Where an evaluation's row has which clock, in Hertz but for the CPU's ratio and OGR_CLOCK_TRACE_EMIO. */
 enum ogr_clock {
     OGR_CLOCK_ARM_PLL,
     OGR_CLOCK_IO_PLL,
@@ -82,12 +91,12 @@ enum ogr_clock {
     OGR_CLOCK_SPI,
     OGR_CLOCK_CAN,
     OGR_CLOCK_PCAP,
-    OGR_CLOCK_TRACE, /* 0 where trace is EMIO's */
+    OGR_CLOCK_TRACE,      /* 0 where trace is EMIO's */
+    OGR_CLOCK_TRACE_EMIO, /* 1 where trace is EMIO's: it has no clock then; else 0 */
     OGR_CLOCK_FPGA0,
     OGR_CLOCK_FPGA1,
     OGR_CLOCK_FPGA2,
     OGR_CLOCK_FPGA3,
-    OGR_CLOCK_TRACE_EMIO, /* 1 where trace is EMIO's: it has no clock then */
     OGR_CLOCK_WORDS
 };
 
@@ -108,29 +117,59 @@ enum ogr_pll { OGR_PLL_ARM, OGR_PLL_DDR, OGR_PLL_IO };
 /* A PLL's mark: it was started by ogr_pll_start_once. */
 #define OGR_MARK(pll) (UINT32_C(1) << (pll))
 
-/* The row in which a caller keeps a run of the PLL sequence: its state, and behind that what the host is to do. */
-enum ogr_pll_row {
-    OGR_ROW_PLL,      /* an ogr_pll */
-    OGR_ROW_BYPASSED, /* 0 or 1 */
-    OGR_ROW_FDIV,
-    OGR_ROW_CHARGE_PUMP,
-    OGR_ROW_LOOP_RESISTOR,
-    OGR_ROW_LOCK_COUNT,
-    OGR_ROW_DONE,    /* how many rows of document 01's sequence are done, at most 12 */
-    OGR_ROW_POLLS,   /* polls left, at most 65535 */
-    OGR_ROW_WORD,    /* what was last read or written */
-    OGR_ROW_REQUEST, /* what the host is to do, an ogr_request */
-    OGR_ROW_NUMBER,  /* the image's word to be read or written, else 0 */
-    OGR_ROW_VALUE,   /* what is to be written there, else 0 */
-    OGR_ROW_WORDS
-};
-
-/* What the host is to do for a run. */
+/* What the host is to do for a run of the PLL sequence. */
 enum ogr_request {
     OGR_READ,
     OGR_WRITE,
-    OGR_LOCKED,   /* nothing more: the PLL is in use */
-    OGR_TIMED_OUT /* nothing more: no poll is left, OGR_LOCK_TIMEOUT */
+    OGR_LOCKED, /* nothing more: the PLL is in use */
+    OGR_NOTHING /* nothing more: the call refused */
+};
+
+/* How a recorded run ended. */
+enum ogr_end {
+    OGR_END_LOCKED,
+    OGR_END_TIMED_OUT, /* every poll allowed was clear */
+    OGR_END_STARVED    /* another word was to be read, and there was none */
+};
+
+/* What a run of the PLL sequence is to do. */
+struct ogr_pll_plan {
+    uint8_t pll;   /* an ogr_pll */
+    bool bypassed; /* the chip was booted with its PLLs bypassed */
+    uint8_t fdiv;
+    uint8_t charge_pump;
+    uint8_t loop_resistor;
+    uint16_t lock_count;
+    uint16_t polls; /* how many polls of the lock bit may be made; the last of them, if clear, is already OGR_LOCK_TIMEOUT */
+};
+
+/* A run between two steps. It is handed on as it came; one that was changed is a run like any other, or refused. */
+struct ogr_pll_run {
+    struct ogr_pll_plan plan; /* polls: those that are left */
+    uint8_t done;             /* how many rows of document 01's sequence are done, at most 12 */
+    uint32_t word;            /* what was last read or written */
+};
+
+/* What a start or a step gives. */
+struct ogr_pll_step {
+    uint32_t refusal; /* 0, or an ogr_refusal */
+    uint32_t request; /* what the host is to do, an ogr_request */
+    uint32_t number;  /* the image's word to be read or written, else 0 */
+    uint32_t value;   /* what is to be written there, else 0 */
+    struct ogr_pll_run run;
+};
+
+/* What a once-only start gives. */
+struct ogr_pll_started {
+    struct ogr_pll_step step;
+    uint32_t marks; /* after the start; as given where it refused */
+};
+
+/* What a recorded run gives. */
+struct ogr_pll_ran {
+    uint32_t refusal; /* 0, or an ogr_refusal */
+    uint32_t end;     /* an ogr_end; 0 where refused */
+    size_t accesses;  /* how many were written to the rows; with OGR_NO_ROOM how long the rows have to be, else 0 where refused */
 };
 
 /* Words of an image: word i is the SLCR register at offset 0x100 + 4i. */
@@ -139,11 +178,14 @@ enum ogr_request {
 /* The most viable baud pairs that there can be. */
 #define OGR_MOST_BAUD_PAIRS 251
 
-/* The most accesses that ogr_pll_run can make: so many words read, and 6 writes. */
+/* The most accesses that a recorded run can make: so many words read, and 6 writes. */
 #define OGR_MOST_ACCESSES(reads_len) ((size_t)(reads_len) + 6)
 
-/* How ogr_pll_run ends where the words to be read run out; not a refusal. */
-#define OGR_STARVED UINT32_C(0xFFFFFFFF)
+/* The I2C bus: its nominal frequencies in Hertz, and those that ogr_i2c aims at. */
+#define OGR_I2C_NORMAL_NOMINAL 100000
+#define OGR_I2C_FAST_NOMINAL 400000
+#define OGR_I2C_NORMAL_AIM 90000
+#define OGR_I2C_FAST_AIM 384600
 
 /* A UART pair: baud = reference / (cd * (bdiv + 1)), with the error as a fraction of the baud rate asked for. */
 struct ogr_baud_divisors {
@@ -174,12 +216,12 @@ uint32_t ogr_two_stage_frequency(uint32_t reference, uint32_t div0, uint32_t div
 /* ---- I2C ---- */
 
 /*
- * The divisors a from 1 to 4 and b from 1 to 64 whose input/(22ab) is nearest to 90,000 Hz, or to 384,600 Hz if `fast`: what a nominal
- * 100 or 400 kHz asks for. Ties go to the smaller a, then to the smaller b.
+ * The divisors a from 1 to 4 and b from 1 to 64 whose input/(22ab) is nearest to OGR_I2C_NORMAL_AIM, or to OGR_I2C_FAST_AIM if `fast`:
+ * what the nominal frequency asks for. Ties go to the smaller a, then to the smaller b.
  * out: 2 words, the register values a-1 and b-1.
  * Refusals: OGR_NO_ROOM (2); OGR_SPEED.
  */
-uint64_t ogr_i2c_divisors(uint32_t input, bool fast, uint32_t *out, size_t out_len);
+uint64_t ogr_i2c(uint32_t input, bool fast, uint32_t *out, size_t out_len);
 
 /* The speed of two register values: input/(22 (div_a + 1) (div_b + 1)), in Hertz. Refuses nothing. */
 uint32_t ogr_i2c_speed(uint32_t input, uint8_t div_a, uint8_t div_b);
@@ -193,7 +235,7 @@ uint32_t ogr_i2c_speed(uint32_t input, uint8_t div_a, uint8_t div_b);
  */
 uint64_t ogr_ttc(uint32_t reference, uint32_t frequency, uint32_t *out, size_t out_len);
 
-/* ---- PLL settings and sequence ---- */
+/* ---- PLL settings ---- */
 
 /*
  * The manual's setting for a multiplier.
@@ -208,46 +250,54 @@ uint64_t ogr_pll_mul(uint32_t multiplier, uint32_t *out, size_t out_len);
  */
 uint64_t ogr_pll_target(uint32_t crystal, uint32_t target, uint32_t *out, size_t out_len);
 
-/*
- * The whole sequence that sets a PLL up and waits for its lock, over the words that the registers give when read, in their order.
- * `bypassed` says that the chip was booted with its PLLs bypassed, `limit` how many polls may show the lock bit clear. Nothing is
- * marked as started, and what was started before does not matter.
- * kinds, numbers, values: of each access 0 for a read or 1 for a write, the image's word, and the value read or written.
- * ogr_number() is 0 when locked, OGR_LOCK_TIMEOUT, or OGR_STARVED where another word was to be read and there is none. With all three
- * ogr_carried() is the number of accesses, which stand at the front of the rows, and what lies behind them stays.
- * Refusals: OGR_BAD_LIMIT for limit 0; OGR_BAD_FIELD for a PLL that is none of ogr_pll, FDIV over 127, charge pump or resistor over 15,
- * or lock count over 1023; OGR_NO_ROOM where a row is shorter than the accesses are many, carrying how many there are, at most
- * OGR_MOST_ACCESSES(reads_len).
- */
-uint64_t ogr_pll_run(uint8_t pll, bool bypassed, uint8_t fdiv, uint8_t charge_pump, uint8_t loop_resistor, uint16_t lock_count,
-                     uint16_t limit, const uint32_t *reads, size_t reads_len, uint32_t *kinds, size_t kinds_len,
-                     uint32_t *numbers, size_t numbers_len, uint32_t *values, size_t values_len);
+/* ---- The PLL sequence ---- */
 
 /*
- * The same sequence one register access a step, for a host that has the registers: the row keeps the run and says what to do.
- * Starts a run whatever was started before, marks nothing, and takes the first step: the row then asks for the first read.
- * row: OGR_ROW_WORDS words, as ogr_pll_row orders them.
- * Refusals: OGR_NO_ROOM (OGR_ROW_WORDS); then OGR_BAD_LIMIT and OGR_BAD_FIELD as in ogr_pll_run.
+ * Sets a PLL up and waits for its lock, one register access a step, for a host that has the registers. Nothing is lent: the run goes
+ * in and comes back by value.
+ *
+ *     struct ogr_pll_step step = ogr_pll_start(plan);
+ *     while (step.request == OGR_READ || step.request == OGR_WRITE) {
+ *         uint32_t word = 0;
+ *         if (step.request == OGR_READ)
+ *             word = registers[step.number];
+ *         else
+ *             registers[step.number] = step.value;
+ *         step = ogr_pll_step(step.run, word);
+ *     }
+ *     return step.refusal;
+ *
+ * Starts a run whatever was started before, marks nothing, and takes the first step: the first read is asked for.
+ * Refusals: OGR_BAD_LIMIT for polls 0; OGR_BAD_FIELD for a PLL that is none of ogr_pll, FDIV over 127, charge pump or resistor over
+ * 15, or lock count over 1023. A start that is refused asks for OGR_NOTHING, and its run, with `done` 255, is one that no step takes.
  */
-uint64_t ogr_pll_start(uint8_t pll, bool bypassed, uint8_t fdiv, uint8_t charge_pump, uint8_t loop_resistor, uint16_t lock_count,
-                       uint16_t limit, uint32_t *row, size_t row_len);
+struct ogr_pll_step ogr_pll_start(struct ogr_pll_plan plan);
 
 /*
  * The same for a PLL that is not marked as started; it is from then on, even if the run times out. `marks` has the OGR_MARK of each PLL
- * that was started, and any other bit of it is ignored; ogr_carried() of an answer is the marks after the start. A refusal changes no
- * mark: the caller's stand.
- * Refusals: those of ogr_pll_start; then OGR_ALREADY.
+ * that was started, and any other bit of it is ignored: the marks after a start have none of them.
+ * Refusals: those of ogr_pll_start; then OGR_ALREADY. None changes a mark.
  */
-uint64_t ogr_pll_start_once(uint8_t pll, bool bypassed, uint8_t fdiv, uint8_t charge_pump, uint8_t loop_resistor,
-                            uint16_t lock_count, uint16_t limit, uint32_t marks, uint32_t *row, size_t row_len);
+struct ogr_pll_started ogr_pll_start_once(struct ogr_pll_plan plan, uint32_t marks);
 
 /*
- * The next step of a run, once the host has done what the row asks for. `word` is what it read; after a write it is ignored. The row is
- * written anew. After OGR_LOCKED each step gives OGR_LOCKED again, and after OGR_TIMED_OUT each gives OGR_LOCK_TIMEOUT again.
- * Refusals: OGR_NO_ROOM (OGR_ROW_WORDS); OGR_BAD_FIELD where a word before OGR_ROW_WORD is one that no run has. OGR_LOCK_TIMEOUT
- * alone writes the row: the accesses made stand, and it asks for no more.
+ * The next step of a run, once the host has done what it was asked for. `word` is what it read; after a write it is ignored. After
+ * OGR_LOCKED each step gives OGR_LOCKED again.
+ * Refusals, which ask for OGR_NOTHING: OGR_LOCK_TIMEOUT at the last poll allowed if it is clear, and again at every step of the run that
+ * comes back with it; OGR_BAD_FIELD for a run whose numbers no run has, which comes back as it was.
  */
-uint64_t ogr_pll_step(uint32_t word, uint32_t *row, size_t row_len);
+struct ogr_pll_step ogr_pll_step(struct ogr_pll_run run, uint32_t word);
+
+/*
+ * The whole sequence, recorded over the words that the registers give when read, in their order. Nothing is marked as started, and what
+ * was started before does not matter. A run that times out or starves is an answer here, told by `end`.
+ * kinds, numbers, values: of each access OGR_READ or OGR_WRITE, the image's word, and the value read or written. The accesses stand at
+ * the front of the rows, and what lies behind them stays.
+ * Refusals: OGR_BAD_LIMIT and OGR_BAD_FIELD as in ogr_pll_start; then OGR_NO_ROOM where a row is shorter than
+ * OGR_MOST_ACCESSES(reads_len), which `accesses` then is.
+ */
+struct ogr_pll_ran ogr_pll_seq(struct ogr_pll_plan plan, const uint32_t *reads, size_t reads_len, uint32_t *kinds, size_t kinds_len,
+                               uint32_t *numbers, size_t numbers_len, uint32_t *values, size_t values_len);
 
 /* ---- UART ---- */
 
@@ -256,7 +306,7 @@ uint64_t ogr_pll_step(uint32_t word, uint32_t *row, size_t row_len);
  * out: 3 words, the clock divisor, the baud divider and the bits of the error as a float.
  * Refusals: OGR_NO_ROOM (3); OGR_NO_PAIR.
  */
-uint64_t ogr_uart_best(uint32_t reference, uint32_t baud, uint32_t *out, size_t out_len);
+uint64_t ogr_uart(uint32_t reference, uint32_t baud, uint32_t *out, size_t out_len);
 
 /*
  * Every pair with an error below half a percent, in rising order of the divider. ogr_carried() is how many there are; at most
@@ -276,10 +326,13 @@ uint64_t ogr_uart_list(uint32_t reference, uint32_t baud, struct ogr_baud_diviso
 uint64_t ogr_clocks(uint32_t crystal, const uint32_t *image, size_t image_len, uint32_t *out, size_t out_len);
 
 /*
- * The reference clock of Ethernet 0, or 1 if `second`, in Hertz: ogr_carried() of an answer.
- * Refusals: those of ogr_clocks on the same image but for OGR_NO_ROOM; then OGR_DIVISOR_ZERO with OGR_MODULE_GEM0 or OGR_MODULE_GEM1.
+ * The reference clock of Ethernet 0, or 1 if `second`: of a row that ogr_clocks filled, and of the controller's register word, which is
+ * word 16 or 17 of an image.
+ * out: 1 word, Hertz.
+ * Refusals: OGR_NO_ROOM (OGR_CLOCK_WORDS) where the row of clocks is shorter than that; OGR_NO_ROOM (1); OGR_DIVISOR_ZERO with
+ * OGR_MODULE_GEM0 or OGR_MODULE_GEM1.
  */
-uint64_t ogr_gem(bool second, uint32_t crystal, const uint32_t *image, size_t image_len);
+uint64_t ogr_gem(bool second, uint32_t word, const uint32_t *clocks, size_t clocks_len, uint32_t *out, size_t out_len);
 
 /*
  * Sets one IO clock, an ogr_io_clock, in a row that ogr_clocks filled. No other word changes.

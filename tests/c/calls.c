@@ -27,13 +27,19 @@ static void two_stage(void)
 
 static void i2c(void)
 {
-    ANSWERS(ogr_i2c_divisors(111111111, false, row, ROOM), 0, 55);
-    ANSWERS(ogr_i2c_divisors(506880000, false, row, 2), 3, 63);
-    REFUSES(ogr_i2c_divisors(506880001, false, row, 2), 10, 0);
-    ANSWERS(ogr_i2c_divisors(2166067200, true, row, 2), 3, 63);
-    REFUSES(ogr_i2c_divisors(2166067201, true, row, 2), 10, 0);
-    NO_ROOM(2, ogr_i2c_divisors(111111111, false, row, len));
-    NO_ROOM(2, ogr_i2c_divisors(UINT32_MAX, true, row, len));
+    ANSWERS(ogr_i2c(111111111, false, row, ROOM), 0, 55);
+    ANSWERS(ogr_i2c(506880000, false, row, 2), 3, 63);
+    REFUSES(ogr_i2c(506880001, false, row, 2), 10, 0);
+    ANSWERS(ogr_i2c(2166067200, true, row, 2), 3, 63);
+    REFUSES(ogr_i2c(2166067201, true, row, 2), 10, 0);
+    NO_ROOM(2, ogr_i2c(111111111, false, row, len));
+    NO_ROOM(2, ogr_i2c(UINT32_MAX, true, row, len));
+    for (uint32_t a = 1; a <= 4; a++) {
+        GIVES(ogr_i2c_speed(22 * a * 64 * OGR_I2C_NORMAL_AIM, (uint8_t)(a - 1), 63), OGR_I2C_NORMAL_AIM);
+        GIVES(ogr_i2c_speed(22 * a * 64 * OGR_I2C_FAST_AIM, (uint8_t)(a - 1), 63), OGR_I2C_FAST_AIM);
+    }
+    GIVES(OGR_I2C_NORMAL_NOMINAL / 1000, 100);
+    GIVES(OGR_I2C_FAST_NOMINAL / 1000, 400);
     GIVES(ogr_i2c_speed(111111111, 0, 55), 90187);
     GIVES(ogr_i2c_speed(22 * 256 * 256, 255, 255), 1);
     GIVES(ogr_i2c_speed(22 * 256 * 256 - 1, 255, 255), 0);
@@ -71,12 +77,12 @@ static void pll_settings(void)
 
 static void uart(void)
 {
-    ANSWERS(ogr_uart_best(48000, 9600, row, ROOM), 1, 4, 0);
-    ANSWERS(ogr_uart_best(24000, 9600, row, 3), 1, 4, 0x3F000000);
-    REFUSES(ogr_uart_best(23999, 9600, row, 3), 8, 0);
-    REFUSES(ogr_uart_best(48000, 0, row, 3), 8, 0);
-    NO_ROOM(3, ogr_uart_best(48000, 9600, row, len));
-    NO_ROOM(3, ogr_uart_best(23999, 9600, row, len));
+    ANSWERS(ogr_uart(48000, 9600, row, ROOM), 1, 4, 0);
+    ANSWERS(ogr_uart(24000, 9600, row, 3), 1, 4, 0x3F000000);
+    REFUSES(ogr_uart(23999, 9600, row, 3), 8, 0);
+    REFUSES(ogr_uart(48000, 0, row, 3), 8, 0);
+    NO_ROOM(3, ogr_uart(48000, 9600, row, len));
+    NO_ROOM(3, ogr_uart(23999, 9600, row, len));
 }
 
 enum { RECORDS = 4 };
@@ -128,7 +134,7 @@ static void clocks(void)
 {
     plain_image();
     ANSWERS(ogr_clocks(1000, image, 50, row, ROOM), 1000, 1000, 1000, 1000, 0, 250, 500, 500, 1000, 1000, 1000, 1000, 1000,
-            1000, 1000, 1000, 1000, 1000, 1000, 1000, 1000, 1000, 1000, 1000, 1000, 0);
+            1000, 1000, 1000, 1000, 1000, 1000, 1000, 1000, 0, 1000, 1000, 1000, 1000);
     REFUSES(ogr_clocks(1000, image, 49, row, 26), 1, 0);
     REFUSES(ogr_clocks(1000, image, 51, row, 26), 1, 0);
     REFUSES(ogr_clocks(1000, NULL, 0, row, 26), 1, 0);
@@ -144,7 +150,7 @@ static void clocks(void)
     image[36] = 0x00200130;
     image[49] = 1;
     ANSWERS(ogr_clocks(100, image, 50, row, 26), 200, 500, 300, 200, 1, 41, 83, 125, 250, 300, 300, 300, 500,
-            500, 500, 500, 500, 500, 33, 500, 0, 6, 500, 150, 500, 1);
+            500, 500, 500, 500, 500, 33, 500, 0, 1, 6, 500, 150, 500);
     plain_image();
     image[28] = 0x01B00300;
     blank_row();
@@ -175,22 +181,27 @@ static void zero_divisors(void)
     REFUSES(ogr_clocks(UINT32_MAX, image, 50, row, 26), 2, 0);
 }
 
+/* Of a row whose PLLs give 200, 300 and 100: the source's PLL over both divisors, whatever EMIO's bit is. */
 static void gem(void)
 {
+    const struct { uint32_t word, hertz; } words[] = {
+        {0x00200300, 16}, {0x00200310, 16}, {0x00200320, 33}, {0x00200330, 50}, {0x00200360, 33}, {0x03F03F20, 0}, {0xFC1FC10F, 100}};
+    uint32_t clocks[OGR_CLOCK_WORDS];
     plain_image();
     image[0] = 0x2000;
     image[1] = 0x3000;
-    image[16] = 0x00200360;
-    GIVES(ogr_gem(false, 100, image, 50), UINT64_C(33) << 32);
-    GIVES(ogr_gem(true, 100, image, 50), UINT64_C(100) << 32);
-    image[16] = 0x00200020;
-    REFUSES(ogr_gem(false, 100, image, 50), 2, 12);
-    image[17] = 0x00000100;
-    REFUSES(ogr_gem(true, 100, image, 50), 2, 13);
-    REFUSES(ogr_gem(true, UINT32_MAX, image, 50), 3, 0);
-    REFUSES(ogr_gem(false, 100, image, 49), 1, 0);
-    image[25] = 0;
-    REFUSES(ogr_gem(true, 100, image, 50), 2, 11);
+    GIVES(ogr_clocks(100, image, 50, clocks, OGR_CLOCK_WORDS), 0);
+    for (size_t i = 0; i < sizeof words / sizeof *words; i++) {
+        ANSWERS(ogr_gem(false, words[i].word, clocks, OGR_CLOCK_WORDS, row, 1), words[i].hertz);
+        ANSWERS(ogr_gem(true, words[i].word, clocks, OGR_CLOCK_WORDS, row, ROOM), words[i].hertz);
+    }
+    REFUSES(ogr_gem(false, 0x00200020, clocks, OGR_CLOCK_WORDS, row, 1), 2, OGR_MODULE_GEM0);
+    REFUSES(ogr_gem(true, 0x00000100, clocks, OGR_CLOCK_WORDS, row, 1), 2, OGR_MODULE_GEM1);
+    NO_ROOM(1, ogr_gem(false, 0x00200320, clocks, OGR_CLOCK_WORDS, row, len));
+    NO_ROOM(1, ogr_gem(true, 0, clocks, OGR_CLOCK_WORDS, row, len));
+    NO_ROOM(OGR_CLOCK_WORDS, ogr_gem(false, 0x00200320, clocks, len, row, 1));
+    NO_ROOM(OGR_CLOCK_WORDS, ogr_gem(true, 0, clocks, len, row, 0));
+    REFUSES(ogr_gem(true, 0, NULL, 0, NULL, 0), OGR_NO_ROOM, OGR_CLOCK_WORDS);
 }
 
 static void io_update(void)
@@ -231,9 +242,9 @@ static void set_up(void)
 
 int main(void)
 {
-    void (*const all[])(void) = {two_stage, i2c, ttc, pll_settings, pll_locks, pll_does_not_lock, pll_is_not_started,
-                                 pll_steps, pll_steps_time_out, pll_steps_from_no_run, pll_starts_once, pll_starts_unchecked,
-                                 uart, uart_list, clocks, zero_divisors, gem, io_update, set_up};
+    void (*const all[])(void) = {two_stage, i2c, ttc, pll_settings, pll_seq_locks, pll_seq_does_not_lock,
+                                 pll_seq_is_not_started, pll_steps, pll_steps_time_out, pll_steps_from_no_run, pll_steps_from_forged_runs,
+                                 pll_starts_once, pll_starts_unchecked, uart, uart_list, clocks, zero_divisors, gem, io_update, set_up};
     for (size_t i = 0; i < sizeof all / sizeof *all; i++)
         all[i]();
     printf("calls.c: %d checks, %d failed\n", checks, failures);

@@ -1,183 +1,224 @@
-/* For calls.c: the PLL sequence, as a whole run and a step at a time. */
+/* For calls.c: the PLL sequence, recorded and a step at a time. */
 #ifndef SEQUENCE_H
 #define SEQUENCE_H
 
 #include "check.h"
 
-struct plan {
-    uint8_t pll;
-    bool bypassed;
-    uint8_t fdiv, charge_pump, loop_resistor;
-    uint16_t lock_count, limit;
-};
-
-enum { ACCESSES = 20 };
+/* Kind, word, value. */
 typedef uint32_t access[3];
 
+/* A run that sees others' lock bits before its own, and one that never sees its own: what is read, and every access made. */
+static const struct ogr_pll_plan locking = {OGR_PLL_DDR, true, 40, 2, 2, 250, 9};
+static const uint32_t locking_reads[] = {UINT32_MAX, UINT32_MAX, UINT32_MAX, 0, 5, 2, 0x10};
+static const access locking_log[] = {
+    {0, 1, UINT32_MAX}, {1, 1, 0xFFFA8FFF}, {0, 5, UINT32_MAX}, {1, 5, 0xFFCFA22F}, {0, 1, UINT32_MAX},
+    {1, 1, 0xFFFFFFF5}, {0, 1, 0}, {1, 1, 1}, {1, 1, 0}, {0, 3, 5}, {0, 3, 2}, {0, 1, 0x10}, {1, 1, 0}};
+static const struct ogr_pll_plan clear = {OGR_PLL_ARM, false, 13, 2, 6, 750, 2};
+static const uint32_t clear_reads[] = {0, 5, 2, 0x10, 6, 0, 1, 0};
+static const access clear_log[] = {
+    {0, 0, 0}, {1, 0, 0xD000}, {0, 4, 5}, {1, 4, 0x2EE265}, {0, 0, 2}, {1, 0, 0x10},
+    {0, 0, 0x10}, {1, 0, 0x11}, {1, 0, 0x10}, {0, 3, 6}, {0, 3, 0}};
+enum { LOCKING = 13, CLEAR = 11 };
+
+/* Plans with one number each that does not fit, and one with none that does. */
+static const struct ogr_pll_plan wide[] = {{OGR_PLL_IO, false, 128, 15, 15, 1023, 1}, {OGR_PLL_IO, false, 127, 16, 15, 1023, 1},
+                                           {OGR_PLL_IO, false, 127, 15, 16, 1023, 1}, {OGR_PLL_IO, false, 127, 15, 15, 1024, 1},
+                                           {3, false, 127, 15, 15, 1023, 1}, {255, true, 255, 255, 255, 65535, 65535}};
+enum { WIDE = sizeof wide / sizeof *wide };
+static const struct ogr_pll_plan no_polls = {3, false, 128, 16, 16, 1024, 0};
+static const struct ogr_pll_plan widest = {OGR_PLL_IO, true, 127, 15, 15, 1023, 65535};
+
+/* ---- Recorded ---- */
+
+enum { ACCESSES = 20 };
+
 /* The accesses wanted stand at the front of the three rows, and all behind them is blank. */
-static void run_is(struct place here, struct plan p, const uint32_t *reads, size_t reads_len, const size_t room[3],
-                   uint64_t want, const access *accesses, size_t count)
+static void seq_is(struct place here, struct ogr_pll_plan plan, const uint32_t *reads, size_t reads_len, const size_t room[3],
+                   struct ogr_pll_ran want, const access *log)
 {
     uint32_t rows[3][ACCESSES];
     for (size_t i = 0; i < 3 * ACCESSES; i++)
         rows[i / ACCESSES][i % ACCESSES] = BLANK;
-    const uint64_t got = ogr_pll_run(p.pll, p.bypassed, p.fdiv, p.charge_pump, p.loop_resistor, p.lock_count, p.limit,
-                                     reads, reads_len, rows[0], room[0], rows[1], room[1], rows[2], room[2]);
-    told(here, "ogr_pll_run", got, ogr_number(want), ogr_carried(want));
+    const struct ogr_pll_ran got = ogr_pll_seq(plan, reads, reads_len, rows[0], room[0], rows[1], room[1], rows[2], room[2]);
+    same(here, "ogr_pll_seq", "the refusal", got.refusal, want.refusal);
+    same(here, "ogr_pll_seq", "the end", got.end, want.end);
+    same(here, "ogr_pll_seq", "how many accesses there are", got.accesses, want.accesses);
     for (size_t i = 0; i < 3 * ACCESSES; i++) {
         const size_t at = i / 3, part = i % 3;
-        same(here, "ogr_pll_run", "the log", rows[part][at], at < count ? accesses[at][part] : BLANK);
+        same(here, "ogr_pll_seq", "the log", rows[part][at], log && at < want.accesses ? log[at][part] : BLANK);
     }
 }
 
-static uint64_t ends(uint32_t number, uint32_t carried) { return number | (uint64_t)carried << 32; }
+static struct ogr_pll_ran ran(enum ogr_end end, size_t accesses) { return (struct ogr_pll_ran){0, end, accesses}; }
+static struct ogr_pll_ran not_ran(enum ogr_refusal why, size_t accesses) { return (struct ogr_pll_ran){why, 0, accesses}; }
 
-/* The DDR PLL, booted bypassed, sees another's lock bits and then its own. */
-static void pll_locks(void)
+static void pll_seq_locks(void)
 {
-    const uint32_t reads[] = {UINT32_MAX, UINT32_MAX, UINT32_MAX, 0, 5, 2, 0x10};
-    const access log[] = {{0, 1, UINT32_MAX}, {1, 1, 0xFFFA8FFF}, {0, 5, UINT32_MAX}, {1, 5, 0xFFCFA22F}, {0, 1, UINT32_MAX},
-                          {1, 1, 0xFFFFFFF5}, {0, 1, 0}, {1, 1, 1}, {1, 1, 0}, {0, 3, 5}, {0, 3, 2}, {0, 1, 0x10}, {1, 1, 0}};
-    const struct plan plan = {OGR_PLL_DDR, true, 40, 2, 2, 250, 9};
-    const size_t enough[] = {OGR_MOST_ACCESSES(7), 13, ACCESSES};
-    run_is(HERE, plan, reads, 7, enough, ends(0, 13), log, 13);
+    const size_t enough[] = {OGR_MOST_ACCESSES(7), 14, ACCESSES}, none[] = {0, 0, 0};
+    seq_is(HERE, locking, locking_reads, 7, enough, ran(OGR_END_LOCKED, LOCKING), locking_log);
+    seq_is(HERE, locking, locking_reads, 7, none, not_ran(OGR_NO_ROOM, 13), NULL);
     for (size_t i = 0; i < 3; i++) {
         size_t short_row[] = {13, 13, 13};
         short_row[i] = 12;
-        run_is(HERE, plan, reads, 7, short_row, ends(OGR_NO_ROOM, 13), NULL, 0);
+        seq_is(HERE, locking, locking_reads, 7, short_row, not_ran(OGR_NO_ROOM, 13), NULL);
     }
 }
 
-/* After two clear polls no more is asked for, and what was done stands. Where the words end, so does the run. */
-static void pll_does_not_lock(void)
+/* After two clear polls no more is read. Where the words end, so does the run; room is asked for as if it did not. */
+static void pll_seq_does_not_lock(void)
 {
-    const uint32_t reads[] = {0, 5, 2, 0x10, 6, 0, 1, 0};
-    const access log[] = {{0, 0, 0}, {1, 0, 0xD000}, {0, 4, 5}, {1, 4, 0x2EE265}, {0, 0, 2}, {1, 0, 0x10},
-                          {0, 0, 0x10}, {1, 0, 0x11}, {1, 0, 0x10}, {0, 3, 6}, {0, 3, 0}};
-    const struct plan plan = {OGR_PLL_ARM, false, 13, 2, 6, 750, 2};
-    const size_t room[] = {11, 11, 11}, none[] = {0, 0, 0};
-    run_is(HERE, plan, reads, 8, room, ends(OGR_LOCK_TIMEOUT, 11), log, 11);
-    run_is(HERE, plan, reads, 8, none, ends(OGR_NO_ROOM, 11), NULL, 0);
-    run_is(HERE, plan, reads, 5, room, ends(OGR_STARVED, 10), log, 10);
-    run_is(HERE, plan, reads, 3, room, ends(OGR_STARVED, 6), log, 6);
-    run_is(HERE, plan, NULL, 0, none, ends(OGR_STARVED, 0), NULL, 0);
+    const size_t room[] = {14, 14, 14}, few[] = {13, 13, 13}, six[] = {6, 6, 6}, five[] = {6, 6, 5};
+    seq_is(HERE, clear, clear_reads, 8, room, ran(OGR_END_TIMED_OUT, CLEAR), clear_log);
+    seq_is(HERE, clear, clear_reads, 8, few, not_ran(OGR_NO_ROOM, 14), NULL);
+    seq_is(HERE, clear, clear_reads, 5, room, ran(OGR_END_STARVED, 10), clear_log);
+    seq_is(HERE, clear, clear_reads, 3, room, ran(OGR_END_STARVED, 6), clear_log);
+    seq_is(HERE, clear, NULL, 0, six, ran(OGR_END_STARVED, 0), NULL);
+    seq_is(HERE, clear, NULL, 0, five, not_ran(OGR_NO_ROOM, 6), NULL);
 }
 
-static void pll_is_not_started(void)
+static void pll_seq_is_not_started(void)
 {
-    const struct plan wide[] = {{OGR_PLL_IO, false, 128, 15, 15, 1023, 1}, {OGR_PLL_IO, false, 127, 16, 15, 1023, 1},
-                                {OGR_PLL_IO, false, 127, 15, 16, 1023, 1}, {OGR_PLL_IO, false, 127, 15, 15, 1024, 1},
-                                {3, false, 127, 15, 15, 1023, 1}};
-    const struct plan no_limit = {3, false, 128, 16, 16, 1024, 0}, widest = {OGR_PLL_IO, false, 127, 15, 15, 1023, 65535};
-    const uint32_t reads[] = {0, 0, 0, 0, 4, 0};
-    const size_t room[] = {12, 12, 12}, none[] = {0, 0, 0};
-    for (size_t i = 0; i < sizeof wide / sizeof *wide; i++) {
-        run_is(HERE, wide[i], reads, 6, room, OGR_BAD_FIELD, NULL, 0);
-        run_is(HERE, wide[i], reads, 6, none, OGR_BAD_FIELD, NULL, 0);
+    const size_t room[] = {13, 13, 13}, none[] = {0, 0, 0};
+    for (size_t i = 0; i < WIDE; i++) {
+        seq_is(HERE, wide[i], locking_reads, 7, room, not_ran(OGR_BAD_FIELD, 0), NULL);
+        seq_is(HERE, wide[i], locking_reads, 7, none, not_ran(OGR_BAD_FIELD, 0), NULL);
     }
-    run_is(HERE, no_limit, reads, 6, room, OGR_BAD_LIMIT, NULL, 0);
-    run_is(HERE, widest, reads, 6, none, ends(OGR_NO_ROOM, 12), NULL, 0);
+    seq_is(HERE, no_polls, locking_reads, 7, room, not_ran(OGR_BAD_LIMIT, 0), NULL);
+    seq_is(HERE, no_polls, locking_reads, 7, none, not_ran(OGR_BAD_LIMIT, 0), NULL);
+    seq_is(HERE, widest, locking_reads, 7, none, not_ran(OGR_NO_ROOM, 13), NULL);
 }
 
-static uint64_t start(struct plan p, size_t len)
+/* ---- A step at a time ---- */
+
+static void step_is(struct place here, const char *call, struct ogr_pll_step got, struct ogr_pll_step want)
 {
-    return ogr_pll_start(p.pll, p.bypassed, p.fdiv, p.charge_pump, p.loop_resistor, p.lock_count, p.limit, row, len);
+    const struct ogr_pll_plan *g = &got.run.plan, *w = &want.run.plan;
+    same(here, call, "the refusal", got.refusal, want.refusal);
+    same(here, call, "the request", got.request, want.request);
+    same(here, call, "the word's number", got.number, want.number);
+    same(here, call, "the value", got.value, want.value);
+    same(here, call, "the run's PLL", g->pll, w->pll);
+    same(here, call, "the run's boot mode", g->bypassed, w->bypassed);
+    same(here, call, "the run's FDIV", g->fdiv, w->fdiv);
+    same(here, call, "the run's charge pump", g->charge_pump, w->charge_pump);
+    same(here, call, "the run's resistor", g->loop_resistor, w->loop_resistor);
+    same(here, call, "the run's lock count", g->lock_count, w->lock_count);
+    same(here, call, "the polls left", g->polls, w->polls);
+    same(here, call, "the rows done", got.run.done, want.run.done);
+    same(here, call, "the run's word", got.run.word, want.run.word);
 }
 
-static uint64_t start_once(struct plan p, uint32_t marks, size_t len)
+static struct ogr_pll_step nothing(enum ogr_refusal why, struct ogr_pll_run run)
 {
-    return ogr_pll_start_once(p.pll, p.bypassed, p.fdiv, p.charge_pump, p.loop_resistor, p.lock_count, p.limit, marks, row, len);
+    return (struct ogr_pll_step){why, OGR_NOTHING, 0, 0, run};
 }
 
-/* Does what the row asks for, access by access as in the log. After a write the word handed in is another than the one written. */
-static void steps_are(struct place here, const access *log, size_t count, uint32_t end, uint32_t refused)
+/* A start that asks for the first read, of the PLL's own word. */
+static struct ogr_pll_step begun(struct ogr_pll_plan plan)
+{
+    return (struct ogr_pll_step){0, OGR_READ, plan.pll, 0, {plan, 1, 0}};
+}
+
+static struct ogr_pll_step not_begun(enum ogr_refusal why, struct ogr_pll_plan plan)
+{
+    return nothing(why, (struct ogr_pll_run){plan, 255, 0});
+}
+
+/* Does what a run asks for, access by access as in the log. After a write the word handed in is another than the one written. */
+static struct ogr_pll_step stepped(struct place here, struct ogr_pll_step step, const access *log, size_t count)
 {
     for (size_t i = 0; i < count; i++) {
-        same(here, "ogr_pll_step", "the kind", row[OGR_ROW_REQUEST], log[i][0]);
-        same(here, "ogr_pll_step", "the word's number", row[OGR_ROW_NUMBER], log[i][1]);
-        same(here, "ogr_pll_step", "the value", row[OGR_ROW_VALUE], log[i][0] == OGR_WRITE ? log[i][2] : 0);
-        const uint64_t got = ogr_pll_step(log[i][0] == OGR_WRITE ? ~log[i][2] : log[i][2], row, OGR_ROW_WORDS);
-        told(here, "ogr_pll_step", got, i + 1 < count ? 0 : refused, 0);
+        const bool write = log[i][0] == OGR_WRITE;
+        same(here, "ogr_pll_step", "the refusal", step.refusal, 0);
+        same(here, "ogr_pll_step", "the kind", step.request, log[i][0]);
+        same(here, "ogr_pll_step", "the word's number", step.number, log[i][1]);
+        same(here, "ogr_pll_step", "the value", step.value, write ? log[i][2] : 0);
+        step = ogr_pll_step(step.run, write ? ~log[i][2] : log[i][2]);
     }
-    same(here, "ogr_pll_step", "the end", row[OGR_ROW_REQUEST], end);
+    return step;
 }
 
-/* The run of pll_locks by steps; after its end nothing changes any more. */
+/* After the end every step gives the end again, whatever word it is handed. */
+static void ends_as(struct place here, struct ogr_pll_step end, struct ogr_pll_step want)
+{
+    step_is(here, "the last ogr_pll_step", end, want);
+    step_is(here, "one ogr_pll_step more", ogr_pll_step(end.run, UINT32_MAX), want);
+    step_is(here, "ogr_pll_step once more", ogr_pll_step(ogr_pll_step(end.run, 0).run, 1), want);
+}
+
 static void pll_steps(void)
 {
-    const access log[] = {{0, 1, UINT32_MAX}, {1, 1, 0xFFFA8FFF}, {0, 5, UINT32_MAX}, {1, 5, 0xFFCFA22F}, {0, 1, UINT32_MAX},
-                          {1, 1, 0xFFFFFFF5}, {0, 1, 0}, {1, 1, 1}, {1, 1, 0}, {0, 3, 5}, {0, 3, 2}, {0, 1, 0x10}, {1, 1, 0}};
-    const struct plan plan = {OGR_PLL_DDR, true, 40, 2, 2, 250, 9};
-    const uint32_t end[] = {1, 1, 40, 2, 2, 250, 12, 7, 0, OGR_LOCKED, 0, 0};
-    ANSWERS(start(plan, ROOM), 1, 1, 40, 2, 2, 250, 1, 9, 0, OGR_READ, 1, 0);
-    steps_are(HERE, log, 13, OGR_LOCKED, 0);
-    told(HERE, "ogr_pll_step", ogr_pll_step(UINT32_MAX, row, ROOM), 0, 0);
-    row_is(HERE, "ogr_pll_step", end, OGR_ROW_WORDS);
+    struct ogr_pll_plan left = locking;
+    left.polls = 7;
+    const struct ogr_pll_step start = ogr_pll_start(locking), end = {0, OGR_LOCKED, 0, 0, {left, 12, 0}};
+    step_is(HERE, "ogr_pll_start", start, begun(locking));
+    ends_as(HERE, stepped(HERE, start, locking_log, LOCKING), end);
 }
 
 static void pll_steps_time_out(void)
 {
-    const access log[] = {{0, 0, 0}, {1, 0, 0xD000}, {0, 4, 5}, {1, 4, 0x2EE265}, {0, 0, 2}, {1, 0, 0x10},
-                          {0, 0, 0x10}, {1, 0, 0x11}, {1, 0, 0x10}, {0, 3, 6}, {0, 3, 0}};
-    const struct plan plan = {OGR_PLL_ARM, false, 13, 2, 6, 750, 2};
-    const uint32_t end[] = {0, 0, 13, 2, 6, 750, 9, 0, 0, OGR_TIMED_OUT, 0, 0};
-    ANSWERS(start(plan, 12), 0, 0, 13, 2, 6, 750, 1, 2, 0, OGR_READ, 0, 0);
-    steps_are(HERE, log, 11, OGR_TIMED_OUT, OGR_LOCK_TIMEOUT);
-    row_is(HERE, "ogr_pll_step", end, OGR_ROW_WORDS);
-    told(HERE, "ogr_pll_step", ogr_pll_step(1, row, ROOM), OGR_LOCK_TIMEOUT, 0);
-    row_is(HERE, "ogr_pll_step", end, OGR_ROW_WORDS);
+    struct ogr_pll_plan left = clear;
+    left.polls = 0;
+    const struct ogr_pll_step start = ogr_pll_start(clear);
+    step_is(HERE, "ogr_pll_start", start, begun(clear));
+    ends_as(HERE, stepped(HERE, start, clear_log, CLEAR), nothing(OGR_LOCK_TIMEOUT, (struct ogr_pll_run){left, 9, 0}));
 }
 
-/* A word that no run has is refused at each place, and the row stays. */
+/* What a refused start gives is no run, and no step makes one of it. */
 static void pll_steps_from_no_run(void)
 {
-    const uint32_t largest[] = {2, 1, 127, 15, 15, 1023, 12, 65535};
-    const struct plan widest = {OGR_PLL_IO, true, 127, 15, 15, 1023, 65535};
-    for (size_t i = 0; i < sizeof largest / sizeof *largest; i++) {
-        uint32_t want[] = {2, 1, 127, 15, 15, 1023, 1, 65535, 0, OGR_READ, 2, 0};
-        blank_row();
-        told(HERE, "ogr_pll_start", start(widest, 12), 0, 0);
-        row[i] = want[i] = largest[i] + 1;
-        told(HERE, "ogr_pll_step", ogr_pll_step(0, row, 12), OGR_BAD_FIELD, 0);
-        row_is(HERE, "ogr_pll_step", want, 12);
+    const struct ogr_pll_run none = {no_polls, 255, 0}, marked = {widest, 255, 0};
+    ends_as(HERE, ogr_pll_step(ogr_pll_start(no_polls).run, 0), nothing(OGR_BAD_FIELD, none));
+    ends_as(HERE, ogr_pll_step(ogr_pll_start_once(widest, 7).step.run, 0), nothing(OGR_BAD_FIELD, marked));
+}
+
+/* A number that no run has is refused at each place, and comes back with the rest of the run as it was. */
+static void pll_steps_from_forged_runs(void)
+{
+    const uint8_t done[] = {13, 64, 254, 255};
+    for (size_t i = 0; i < WIDE; i++) {
+        const struct ogr_pll_run forged = {wide[i], 3, 0x12345678};
+        ends_as(HERE, ogr_pll_step(forged, 7), nothing(OGR_BAD_FIELD, forged));
     }
-    REFUSES(ogr_pll_step(0, row, ROOM), OGR_BAD_FIELD, 0);
-    NO_ROOM(OGR_ROW_WORDS, ogr_pll_step(0, row, len));
+    for (size_t i = 0; i < sizeof done; i++) {
+        const struct ogr_pll_run forged = {widest, done[i], BLANK};
+        ends_as(HERE, ogr_pll_step(forged, 7), nothing(OGR_BAD_FIELD, forged));
+    }
+    const struct ogr_pll_run locked = {widest, 12, 0};
+    ends_as(HERE, ogr_pll_step(locked, 7), (struct ogr_pll_step){0, OGR_LOCKED, 0, 0, locked});
+}
+
+/* ---- Starts ---- */
+
+static void once_is(struct place here, struct ogr_pll_plan plan, uint32_t marks, struct ogr_pll_step want, uint32_t after)
+{
+    const struct ogr_pll_started got = ogr_pll_start_once(plan, marks);
+    step_is(here, "ogr_pll_start_once", got.step, want);
+    same(here, "ogr_pll_start_once", "the marks", got.marks, after);
 }
 
 /* A mark is set by an answer, stands in the way of the same PLL alone, and is looked at last. */
 static void pll_starts_once(void)
 {
-    const struct plan plan = {OGR_PLL_IO, false, 66, 2, 4, 250, 1}, no_limit = {OGR_PLL_IO, false, 128, 2, 4, 250, 0};
-    const struct plan wide = {OGR_PLL_IO, false, 128, 2, 4, 250, 1}, no_pll = {3, false, 66, 2, 4, 250, 1};
-    const uint32_t started[] = {2, 0, 66, 2, 4, 250, 1, 1, 0, OGR_READ, 2, 0};
-    const uint32_t others = OGR_MARK(OGR_PLL_ARM) | OGR_MARK(OGR_PLL_DDR), all = others | OGR_MARK(OGR_PLL_IO);
-    const uint32_t marks[][2] = {{0, OGR_MARK(OGR_PLL_IO)}, {others, all}, {~all, OGR_MARK(OGR_PLL_IO)}};
-    for (size_t i = 0; i < sizeof marks / sizeof *marks; i++) {
-        blank_row();
-        told(HERE, "ogr_pll_start_once", start_once(plan, marks[i][0], ROOM), 0, marks[i][1]);
-        row_is(HERE, "ogr_pll_start_once", started, OGR_ROW_WORDS);
-    }
-    REFUSES(start_once(plan, OGR_MARK(OGR_PLL_IO), 12), OGR_ALREADY, 0);
-    REFUSES(start_once(plan, UINT32_MAX, 12), OGR_ALREADY, 0);
-    REFUSES(start_once(wide, all, 12), OGR_BAD_FIELD, 0);
-    REFUSES(start_once(no_pll, all, 12), OGR_BAD_FIELD, 0);
-    REFUSES(start_once(no_limit, all, 12), OGR_BAD_LIMIT, 0);
-    NO_ROOM(OGR_ROW_WORDS, start_once(plan, 0, len));
-    NO_ROOM(OGR_ROW_WORDS, start_once(no_limit, all, len));
+    const struct ogr_pll_plan plan = {OGR_PLL_IO, false, 66, 2, 4, 250, 1};
+    const uint32_t own = OGR_MARK(OGR_PLL_IO), others = OGR_MARK(OGR_PLL_ARM) | OGR_MARK(OGR_PLL_DDR), all = own | others;
+    once_is(HERE, plan, 0, begun(plan), own);
+    once_is(HERE, plan, others, begun(plan), all);
+    once_is(HERE, plan, ~all, begun(plan), own);
+    once_is(HERE, plan, own, not_begun(OGR_ALREADY, plan), own);
+    once_is(HERE, plan, UINT32_MAX, not_begun(OGR_ALREADY, plan), UINT32_MAX);
+    for (size_t i = 0; i < WIDE; i++)
+        once_is(HERE, wide[i], all, not_begun(OGR_BAD_FIELD, wide[i]), all);
+    once_is(HERE, no_polls, all, not_begun(OGR_BAD_LIMIT, no_polls), all);
+    once_is(HERE, no_polls, ~all, not_begun(OGR_BAD_LIMIT, no_polls), ~all);
 }
 
 static void pll_starts_unchecked(void)
 {
-    const struct plan wide[] = {{OGR_PLL_ARM, false, 128, 15, 15, 1023, 1}, {OGR_PLL_ARM, false, 127, 16, 15, 1023, 1},
-                                {OGR_PLL_ARM, false, 127, 15, 16, 1023, 1}, {OGR_PLL_ARM, false, 127, 15, 15, 1024, 1},
-                                {3, false, 127, 15, 15, 1023, 1}};
-    const struct plan no_limit = {3, false, 128, 16, 16, 1024, 0};
-    for (size_t i = 0; i < sizeof wide / sizeof *wide; i++)
-        REFUSES(start(wide[i], 12), OGR_BAD_FIELD, 0);
-    REFUSES(start(no_limit, 12), OGR_BAD_LIMIT, 0);
-    NO_ROOM(OGR_ROW_WORDS, start(wide[0], len));
-    NO_ROOM(OGR_ROW_WORDS, start(no_limit, len));
+    step_is(HERE, "ogr_pll_start", ogr_pll_start(widest), begun(widest));
+    for (size_t i = 0; i < WIDE; i++)
+        step_is(HERE, "ogr_pll_start", ogr_pll_start(wide[i]), not_begun(OGR_BAD_FIELD, wide[i]));
+    step_is(HERE, "ogr_pll_start", ogr_pll_start(no_polls), not_begun(OGR_BAD_LIMIT, no_polls));
 }
 
 #endif

@@ -3,17 +3,21 @@ use crate::raw;
 use crate::refusal::{Refusal, words};
 use crate::time::Hertz;
 
-/// I2C bus speed.
+/// How fast the bus is to run.
 #[derive(Clone, Copy, Debug, PartialEq, Eq)]
 pub enum Speed {
-    /// 100 kHz.
+    /// At 100,000 Hz.
     Normal100kHz,
-    /// 400 kHz.
+    /// At 400,000 Hz.
     HighSpeed400KHz,
 }
 
+/// In Hertz, for each [`Speed`] in its order: what the bus is said to run at, and what the search aims at.
+const NOMINAL: [u32; 2] = [100_000, 400_000];
+const AIM: [u32; 2] = [90_000, 384_600];
+
 impl Speed {
-    /// Nominal bus frequency.
+    /// What the bus is said to run at.
     ///
     /// ```
     /// use ogruspinu::i2c::Speed;
@@ -21,13 +25,10 @@ impl Speed {
     /// assert_eq!(Speed::HighSpeed400KHz.frequency_full_number().to_raw(), 400_000);
     /// ```
     pub const fn frequency_full_number(&self) -> Hertz {
-        Hertz::from_raw(match self {
-            Self::Normal100kHz => 100_000,
-            Self::HighSpeed400KHz => 400_000,
-        })
+        Hertz::from_raw(NOMINAL[*self as usize])
     }
 
-    /// What the search aims at instead, because of the hardware.
+    /// The frequency that [`calculate_divisors`] comes as near to as it can.
     ///
     /// ```
     /// use ogruspinu::i2c::Speed;
@@ -35,14 +36,11 @@ impl Speed {
     /// assert_eq!(Speed::HighSpeed400KHz.frequency_for_calculation().to_raw(), 384_600);
     /// ```
     pub const fn frequency_for_calculation(&self) -> Hertz {
-        Hertz::from_raw(match self {
-            Self::Normal100kHz => 90_000,
-            Self::HighSpeed400KHz => 384_600,
-        })
+        Hertz::from_raw(AIM[*self as usize])
     }
 }
 
-/// I2C register values, each one less than its divisor.
+/// What the two divisor fields hold: each divisor less one.
 #[derive(Clone, Copy, Debug, PartialEq, Eq)]
 pub struct ClockConfig {
     div_a: u8,
@@ -50,19 +48,19 @@ pub struct ClockConfig {
 }
 
 impl ClockConfig {
-    /// From the raw register values.
+    /// Of what the fields hold.
     #[inline]
     pub const fn new(div_a: u8, div_b: u8) -> Self {
         Self { div_a, div_b }
     }
 
-    /// Raw `div_a` register value.
+    /// The first field.
     #[inline]
     pub const fn div_a(&self) -> u8 {
         self.div_a
     }
 
-    /// Raw `div_b` register value.
+    /// The second field.
     #[inline]
     pub const fn div_b(&self) -> u8 {
         self.div_b
@@ -98,6 +96,6 @@ pub fn calculate_i2c_speed(cpu_1x_clk: Hertz, clk_config: ClockConfig) -> Hertz 
 #[inline]
 pub fn calculate_divisors(cpu_1x_clk: Hertz, speed: Speed) -> Result<ClockConfig, Refusal> {
     let fast = speed == Speed::HighSpeed400KHz;
-    let [div_a, div_b] = words(|out| raw::i2c_divisors(cpu_1x_clk.to_raw(), fast, out))?;
+    let [div_a, div_b] = words(|out| raw::i2c(cpu_1x_clk.to_raw(), fast, out))?;
     Ok(ClockConfig::new(div_a as u8, div_b as u8))
 }

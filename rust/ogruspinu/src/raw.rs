@@ -1,6 +1,6 @@
 //! The exported functions with slices in place of pointers, and nothing else changed: what a call tells is still one
-//! number, and longer answers go into lent memory of any length. The other modules are what a program uses; this one
-//! serves those who want to see every lent word.
+//! number or a struct of numbers, and longer answers go into lent memory of any length. The other modules are what a
+//! program uses; this one serves those who want to see every lent word.
 //!
 //! ```
 //! let mut out = [7; 3];
@@ -10,6 +10,7 @@
 //! assert_eq!(ogruspinu::raw::halves(told), (9, 2));
 //! ```
 use crate::ffi;
+pub use crate::ffi::{PllPlan, PllRan, PllRun, PllStarted, PllStep};
 use crate::uart::BaudDivisors;
 
 /// The lower half, 0 or a refusal's number, and the upper: what the refusal carries, or an answer of one number.
@@ -34,17 +35,15 @@ into_words! {
     /// Both divisors, two words.
     two_stage = ogr_two_stage(reference: u32, target: u32, largest: u32);
     /// Both register values, two words.
-    i2c_divisors = ogr_i2c_divisors(input: u32, fast: bool);
+    i2c = ogr_i2c(input: u32, fast: bool);
     /// 0 or the prescaler field plus 1, then the ticks.
     ttc = ogr_ttc(reference: u32, frequency: u32);
     /// FDIV, charge pump, resistor, lock count.
     pll_mul = ogr_pll_mul(multiplier: u32);
     /// FDIV, charge pump, resistor, lock count.
     pll_target = ogr_pll_target(crystal: u32, target: u32);
-    /// The run that twelve words keep, after one step more; `word` is what the host read.
-    pll_step = ogr_pll_step(word: u32);
     /// Clock divisor, baud divider, the error's bits.
-    uart_best = ogr_uart_best(reference: u32, baud: u32);
+    uart = ogr_uart(reference: u32, baud: u32);
     /// Sets IO clock `which` in an evaluation's words.
     io_update = ogr_io_update(which: u32, hertz: u32);
     /// 1x, 2x, 3x2x, 6x4x.
@@ -82,47 +81,49 @@ pub fn clocks(crystal: u32, image: &[u32], out: &mut [u32]) -> u64 {
     unsafe { ffi::ogr_clocks(crystal, image.as_ptr(), words, out.as_mut_ptr(), room) }
 }
 
-/// The upper half is the reference clock of GEM 0 or 1.
+/// The reference clock of GEM 0 or 1 of an evaluation's words and of the controller's: one word.
 #[inline]
-pub fn gem(second: bool, crystal: u32, image: &[u32]) -> u64 {
-    // SAFETY: the slice is lent for the call, with its own length.
-    unsafe { ffi::ogr_gem(second, crystal, image.as_ptr(), image.len()) }
+pub fn gem(second: bool, word: u32, clocks: &[u32], out: &mut [u32]) -> u64 {
+    let (words, room) = (clocks.len(), out.len());
+    // SAFETY: both slices are lent for the call, each with its own length, and cannot overlap.
+    unsafe { ffi::ogr_gem(second, word, clocks.as_ptr(), words, out.as_mut_ptr(), room) }
 }
 
-/// What [`pll_run`] and the starts are to do, in their numbers.
-#[derive(Clone, Copy, Debug, PartialEq, Eq)]
-pub struct PllPlan {
-    /// 0 ARM, 1 DDR, 2 IO.
-    pub pll: u8,
-    pub bypassed: bool,
-    pub fdiv: u8,
-    pub charge_pump: u8,
-    pub loop_resistor: u8,
-    pub lock_count: u16,
-    /// How many polls may show the lock bit clear.
-    pub limit: u16,
+/// A run after its first step, whatever was started before.
+#[inline]
+pub fn pll_start(plan: PllPlan) -> PllStep {
+    // SAFETY: only numbers are passed.
+    unsafe { ffi::ogr_pll_start(plan) }
 }
 
-/// Rows that a sequence's accesses are written to: 0 for a read or 1 for a write, the image's word, the value.
+/// The same once only, with the marks after it.
+#[inline]
+pub fn pll_start_once(plan: PllPlan, marks: u32) -> PllStarted {
+    // SAFETY: only numbers are passed.
+    unsafe { ffi::ogr_pll_start_once(plan, marks) }
+}
+
+/// A run after one step more; `word` is what the host read.
+#[inline]
+pub fn pll_step(run: PllRun, word: u32) -> PllStep {
+    // SAFETY: only numbers are passed.
+    unsafe { ffi::ogr_pll_step(run, word) }
+}
+
+/// Rows that a recorded run's accesses are written to: 0 for a read or 1 for a write, the image's word, the value.
 pub struct PllLog<'a> {
     pub kinds: &'a mut [u32],
     pub numbers: &'a mut [u32],
     pub values: &'a mut [u32],
 }
 
-/// The upper half is how many accesses there are.
+/// A whole run over the words that the registers give when read. Each row has to be six words longer than these.
 #[inline]
-pub fn pll_run(plan: PllPlan, reads: &[u32], log: PllLog<'_>) -> u64 {
+pub fn pll_seq(plan: PllPlan, reads: &[u32], log: PllLog<'_>) -> PllRan {
     // SAFETY: the slices are lent for the call, each with its own length, and cannot overlap.
     unsafe {
-        ffi::ogr_pll_run(
-            plan.pll,
-            plan.bypassed,
-            plan.fdiv,
-            plan.charge_pump,
-            plan.loop_resistor,
-            plan.lock_count,
-            plan.limit,
+        ffi::ogr_pll_seq(
+            plan,
             reads.as_ptr(),
             reads.len(),
             log.kinds.as_mut_ptr(),
@@ -131,45 +132,6 @@ pub fn pll_run(plan: PllPlan, reads: &[u32], log: PllLog<'_>) -> u64 {
             log.numbers.len(),
             log.values.as_mut_ptr(),
             log.values.len(),
-        )
-    }
-}
-
-/// A run in twelve words, after its first step.
-#[inline]
-pub fn pll_start(plan: PllPlan, row: &mut [u32]) -> u64 {
-    // SAFETY: the slice is lent for the call, with its own length.
-    unsafe {
-        ffi::ogr_pll_start(
-            plan.pll,
-            plan.bypassed,
-            plan.fdiv,
-            plan.charge_pump,
-            plan.loop_resistor,
-            plan.lock_count,
-            plan.limit,
-            row.as_mut_ptr(),
-            row.len(),
-        )
-    }
-}
-
-/// The same once only: bit 0 of the marks is ARM's, 1 DDR's, 2 IO's, and the upper half is the marks after an answer.
-#[inline]
-pub fn pll_start_once(plan: PllPlan, marks: u32, row: &mut [u32]) -> u64 {
-    // SAFETY: the slice is lent for the call, with its own length.
-    unsafe {
-        ffi::ogr_pll_start_once(
-            plan.pll,
-            plan.bypassed,
-            plan.fdiv,
-            plan.charge_pump,
-            plan.loop_resistor,
-            plan.lock_count,
-            plan.limit,
-            marks,
-            row.as_mut_ptr(),
-            row.len(),
         )
     }
 }

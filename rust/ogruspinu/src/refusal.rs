@@ -4,10 +4,10 @@ use crate::raw;
 use std::error::Error;
 use std::fmt::{self, Display, Formatter};
 
-/// A refusal. Nothing that was lent has changed.
+/// A refusal. Nothing that was lent has changed. 14 to 19 are document 02's, and no call of the library gives them yet.
 ///
 /// ```
-/// use ogruspinu::{Refusal, pll::PllConfig};
+/// use ogruspinu::{Refusal, pll_settings::PllConfig};
 ///
 /// let refusal = PllConfig::new(67).unwrap_err();
 /// assert_eq!(refusal, Refusal::MulRange(67));
@@ -15,6 +15,7 @@ use std::fmt::{self, Display, Formatter};
 /// assert_eq!(refusal.to_string(), "the multiplier 67 is not one of 13 to 66 (refusal 5)");
 /// ```
 #[derive(Clone, Copy, Debug, PartialEq, Eq, Hash)]
+#[non_exhaustive]
 pub enum Refusal {
     /// 1: the image is not 50 words.
     BadImage,
@@ -42,6 +43,18 @@ pub enum Refusal {
     BadLimit,
     /// 13: a once-only PLL start is repeated.
     Already,
+    /// 14: the crystal is 0 where ratios are asked for.
+    ZeroClock,
+    /// 15: a settings record breaks a rule at this offset.
+    BadSettings(u32),
+    /// 16: a settings record of a later version.
+    Newer,
+    /// 17: a word that the party does not hold, or cannot claim.
+    NotYours,
+    /// 18: rows of lengths that do not belong together.
+    BadRows,
+    /// 19: a part would make its trace too long.
+    TraceLong,
     /// 20: a number is too wide for its field.
     BadField,
 }
@@ -53,7 +66,7 @@ impl Refusal {
     /// use ogruspinu::{Refusal, clocks::ClockModuleId};
     ///
     /// assert_eq!(Refusal::of(2, 11), Some(Refusal::DivisorZero(ClockModuleId::Trace)));
-    /// assert_eq!(Refusal::of(14, 0), None);
+    /// assert_eq!(Refusal::of(21, 0), None);
     /// ```
     pub fn of(number: u32, carried: u32) -> Option<Self> {
         Some(match number {
@@ -70,6 +83,12 @@ impl Refusal {
             11 => Self::LockTimeout,
             12 => Self::BadLimit,
             13 => Self::Already,
+            14 => Self::ZeroClock,
+            15 => Self::BadSettings(carried),
+            16 => Self::Newer,
+            17 => Self::NotYours,
+            18 => Self::BadRows,
+            19 => Self::TraceLong,
             20 => Self::BadField,
             _ => return None,
         })
@@ -91,6 +110,12 @@ impl Refusal {
             Self::LockTimeout => 11,
             Self::BadLimit => 12,
             Self::Already => 13,
+            Self::ZeroClock => 14,
+            Self::BadSettings(_) => 15,
+            Self::Newer => 16,
+            Self::NotYours => 17,
+            Self::BadRows => 18,
+            Self::TraceLong => 19,
             Self::BadField => 20,
         }
     }
@@ -99,7 +124,9 @@ impl Refusal {
     pub const fn carried(self) -> Option<u32> {
         match self {
             Self::DivisorZero(module) | Self::Overflow(module) => Some(module as u32),
-            Self::MulRange(number) | Self::NoRoom(number) => Some(number),
+            Self::MulRange(number) | Self::NoRoom(number) | Self::BadSettings(number) => {
+                Some(number)
+            }
             _ => None,
         }
     }
@@ -121,6 +148,12 @@ impl Display for Refusal {
             Self::LockTimeout => write!(f, "the PLL is unlocked at the last allowed poll"),
             Self::BadLimit => write!(f, "the poll limit is 0"),
             Self::Already => write!(f, "the PLL was started before"),
+            Self::ZeroClock => write!(f, "the crystal is 0"),
+            Self::BadSettings(at) => write!(f, "the settings break a rule at offset {at}"),
+            Self::Newer => write!(f, "the settings are of a later version"),
+            Self::NotYours => write!(f, "the party does not hold the word, or cannot claim it"),
+            Self::BadRows => write!(f, "the rows' lengths do not belong together"),
+            Self::TraceLong => write!(f, "the trace would become too long"),
             Self::BadField => write!(f, "a number is too wide for its field"),
         }?;
         write!(f, " (refusal {})", self.number())
@@ -138,8 +171,9 @@ pub(crate) fn told(told: u64) -> Result<u32, Refusal> {
     }
 }
 
+/// The refusal of a number that the library gave and of what it carries.
 #[cold]
-fn refused(number: u32, carried: u32) -> Refusal {
+pub(crate) fn refused(number: u32, carried: u32) -> Refusal {
     let refusal = Refusal::of(number, carried);
     refusal.expect("the library's contracts have no other refusal")
 }

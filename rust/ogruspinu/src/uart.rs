@@ -3,7 +3,7 @@ use crate::raw;
 use crate::refusal::{Refusal, told, words};
 use crate::time::Hertz;
 
-/// Pairs with an error below this are viable (0.5 %).
+/// A pair is viable where its error is below half a percent.
 pub const MAX_BAUDERROR_RATE: f32 = 0.005;
 
 /// The most viable pairs that there can be.
@@ -13,9 +13,9 @@ pub const MOST_PAIRS: usize = 251;
 #[repr(C)]
 #[derive(Clone, Copy, Debug, Default, PartialEq)]
 pub struct BaudDivisors {
-    /// Baud rate generator (clock divisor) value.
+    /// What the reference clock is divided by first.
     pub cd: u16,
-    /// Baud rate divider value.
+    /// The second divisor less one.
     pub bdiv: u8,
     /// How far the baud rate is off, as a fraction of the one asked for.
     pub error: f32,
@@ -35,7 +35,7 @@ pub struct BaudDivisors {
 /// ```
 #[inline]
 pub fn best_baud_divisors(ref_clk: Hertz, target_baud: u32) -> Result<BaudDivisors, Refusal> {
-    let [cd, bdiv, error] = words(|out| raw::uart_best(ref_clk.to_raw(), target_baud, out))?;
+    let [cd, bdiv, error] = words(|out| raw::uart(ref_clk.to_raw(), target_baud, out))?;
     Ok(BaudDivisors {
         cd: cd as u16,
         bdiv: bdiv as u8,

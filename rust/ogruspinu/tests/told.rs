@@ -2,28 +2,68 @@
 #![cfg(archive)]
 use ogruspinu::Refusal;
 use ogruspinu::clocks::{Clocks, CpuClockRatio};
-use ogruspinu::pll::{
-    Access, BootPllConfig, End, PllConfig, PllMarks, PllSequence, PllType, Request, configure_pll,
-    configure_pll_unchecked, run_pll_unchecked,
+use ogruspinu::pll_seq::{Access, End, record};
+use ogruspinu::pll_settings::PllConfig;
+use ogruspinu::pll_start::{
+    BootPllConfig, PllMarks, PllSequence, PllType, Request, configure_pll, configure_pll_unchecked,
 };
 use ogruspinu::time::Hertz;
 
+/// The refusals' numbers and names as the specification has them.
+fn specified() -> Vec<(u32, String)> {
+    let text = include_str!("../../../crates/refusals/specs/Number.antt");
+    let all = text.lines().filter_map(|line| {
+        let (name, number) = line.split_once(" = ")?;
+        Some((number.parse().ok()?, name.replace('-', "_")))
+    });
+    let mut all: Vec<(u32, String)> = all.collect();
+    all.sort();
+    all
+}
+
+/// BadImage as BAD_IMAGE.
+fn shouted(name: &str) -> String {
+    let mut shouted = String::new();
+    for letter in name.chars() {
+        if letter.is_uppercase() && !shouted.is_empty() {
+            shouted.push('_');
+        }
+        shouted.extend(letter.to_uppercase());
+    }
+    shouted
+}
+
 #[test]
-fn refusals_have_document_01s_numbers() {
-    let known: Vec<u32> = (0..=u8::MAX.into())
-        .filter(|&number| Refusal::of(number, 13).is_some())
-        .collect();
-    assert_eq!(known, [1, 2, 3, 4, 5, 6, 7, 8, 9, 10, 11, 12, 13, 20]);
-    for number in known {
+fn refusals_have_the_specifications_numbers_and_names() {
+    let known = (0..=u8::MAX.into()).filter_map(|number| Some((number, Refusal::of(number, 13)?)));
+    let named = known.map(|(number, refusal)| {
+        let name = format!("{refusal:?}");
+        let name = name.split('(').next().expect("there is a first part");
+        (number, shouted(name))
+    });
+    assert_eq!(named.collect::<Vec<_>>(), specified());
+}
+
+#[test]
+fn the_table_of_refusals_has_the_specifications_numbers_and_names() {
+    let table = include_str!("../../../docs/REFUSALS.md");
+    let rows = table.lines().filter_map(|line| {
+        let mut cells = line.strip_prefix('|')?.split('|').map(str::trim);
+        let number: u32 = cells.next()?.parse().ok()?;
+        Some((number, cells.next()?.to_owned()))
+    });
+    assert_eq!(rows.collect::<Vec<_>>(), specified());
+}
+
+#[test]
+fn refusals_carry_what_document_01_says() {
+    for (number, _) in specified() {
         let refusal = Refusal::of(number, 13).expect("it is known");
         assert_eq!(refusal.number(), number);
-        let carries = matches!(number, 2 | 3 | 5 | 9);
+        let carries = matches!(number, 2 | 3 | 5 | 9 | 15);
         assert_eq!(refusal.carried(), carries.then_some(13));
-        assert!(
-            refusal
-                .to_string()
-                .ends_with(&format!("(refusal {number})"))
-        );
+        let end = format!("(refusal {number})");
+        assert!(refusal.to_string().ends_with(&end));
     }
     assert_eq!(Refusal::of(2, 14), None);
 }
@@ -84,38 +124,31 @@ fn a_record_has_its_other_clocks() {
 }
 
 #[test]
-fn a_sequence_ends_in_every_way() {
-    let run = |config, limit, reads: &[u32]| {
-        run_pll_unchecked(PllType::Io, BootPllConfig::Bypassed, config, limit, reads)
+fn a_recorded_run_ends_in_every_way() {
+    let run = |config, polls, reads: &[u32]| {
+        let run = record(PllType::Io, BootPllConfig::Bypassed, config, polls, reads);
+        run.map(|run| (run.end, run.accesses))
     };
     let config = PllConfig::new(13).expect("it is in the table");
-    let locked = run(config, 1, &[0, 0, 0b1000, 0, 0b100, 0x10]);
-    assert_eq!((locked.end, locked.log.len()), (Ok(End::Locked), 12));
-    assert_eq!(
-        locked.log[5],
-        Access::Write {
-            word: 2,
-            value: 0x10
-        }
-    );
-    let starved = run(config, 1, &[0, 0, 0]);
-    assert_eq!((starved.end, starved.log.len()), (Ok(End::Starved), 6));
-    let clear = run(config, 2, &[0, 0, 0, 0, 0b011, 0b011, 0b100, 0]);
-    assert_eq!(
-        (clear.end, clear.log.len()),
-        (Err(Refusal::LockTimeout), 11)
-    );
+    let (end, log) = run(config, 1, &[0, 0, 0b1000, 0, 0b100, 0x10]).expect("it is a run");
+    assert_eq!((end, log.len()), (End::Locked, 12));
+    let opened = Access::Write {
+        word: 2,
+        value: 0x10,
+    };
+    assert_eq!(log[5], opened);
+    let (end, log) = run(config, 1, &[0, 0, 0]).expect("it is a run");
+    assert_eq!((end, log.len()), (End::Starved, 6));
+    let clear = [0, 0, 0, 0, 0b011, 0b011, 0b100, 0];
+    let (end, log) = run(config, 2, &clear).expect("it is a run");
+    assert_eq!((end, log.len()), (End::TimedOut, 11));
     let wide = PllConfig::new_raw(128, 2, 6, 750);
-    assert_eq!(run(wide, 0, &[0]).end, Err(Refusal::BadLimit));
-    let refused = run(wide, 1, &[0]);
-    assert_eq!(
-        (refused.end, refused.log.len()),
-        (Err(Refusal::BadField), 0)
-    );
+    assert_eq!(run(wide, 0, &[0]), Err(Refusal::BadLimit));
+    assert_eq!(run(wide, 1, &[0]), Err(Refusal::BadField));
 }
 
-/// Does what a run asks for, with these words to be read in order, and gives the accesses up to its end.
-fn stepped(run: &mut PllSequence, reads: &[u32]) -> Vec<Access> {
+/// Does what a run asks for, with these words to be read in order; gives the accesses and the run at its end.
+fn stepped(mut run: PllSequence, reads: &[u32]) -> (Vec<Access>, PllSequence) {
     let mut reads = reads.iter();
     let mut log = Vec::new();
     while let Ok(request) = run.request() {
@@ -131,25 +164,29 @@ fn stepped(run: &mut PllSequence, reads: &[u32]) -> Vec<Access> {
             }
             Request::Locked => break,
         };
-        let _ = run.step(handed);
+        run = run.step(handed);
     }
-    log
+    (log, run)
 }
 
 #[test]
-fn a_run_by_steps_is_the_run_at_once() {
+fn a_run_by_steps_is_the_recorded_run() {
     let config = PllConfig::new(66).expect("it is in the table");
     let reads = [u32::MAX, 0, 7, 0x1A008, 0b110, 0b011, 0b100, 0x10];
     for pll in [PllType::Arm, PllType::Ddr, PllType::Io] {
         for boot in [BootPllConfig::Enabled, BootPllConfig::Bypassed] {
-            for limit in 1..4 {
-                let whole = run_pll_unchecked(pll, boot, config, limit, &reads);
-                let run = configure_pll_unchecked(pll, boot, config, limit);
-                let mut run = run.expect("limit and setting are fine");
-                assert_eq!(stepped(&mut run, &reads), whole.log);
-                let end = run.request();
-                assert_eq!(end, whole.end.map(|_| Request::Locked));
-                assert_eq!((run.step(u32::MAX), run.step(0)), (end, end));
+            for polls in 1..4 {
+                let whole = record(pll, boot, config, polls, &reads);
+                let whole = whole.expect("polls and setting are fine");
+                let run = configure_pll_unchecked(pll, boot, config, polls);
+                let (log, run) = stepped(run.expect("polls and setting are fine"), &reads);
+                assert_eq!(log, whole.accesses);
+                let end = match whole.end {
+                    End::Locked => Ok(Request::Locked),
+                    _ => Err(Refusal::LockTimeout),
+                };
+                assert_eq!(run.request(), end);
+                assert_eq!((run.step(u32::MAX), run.step(0)), (run, run));
             }
         }
     }
@@ -158,8 +195,8 @@ fn a_run_by_steps_is_the_run_at_once() {
 #[test]
 fn a_mark_is_set_by_an_answer_alone() {
     let mut marks = PllMarks::default();
-    let mut start = |pll, config, limit| {
-        let run = configure_pll(pll, BootPllConfig::Enabled, config, limit, &mut marks);
+    let mut start = |pll, config, polls| {
+        let run = configure_pll(pll, BootPllConfig::Enabled, config, polls, &mut marks);
         (run.map(|_| ()), marks)
     };
     let (config, wide) = (

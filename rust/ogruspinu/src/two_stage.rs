@@ -6,9 +6,9 @@ use crate::time::Hertz;
 /// The divisors that [`find_two_stage_divisors`] finds.
 #[derive(Clone, Copy, Debug, PartialEq, Eq)]
 pub struct DivisorPair {
-    /// First-stage divisor.
+    /// That of the first stage.
     pub div0: u32,
-    /// Second-stage divisor.
+    /// That of the second stage.
     pub div1: u32,
 }
 
@@ -18,12 +18,12 @@ pub struct DivisorPair {
 /// smallest `div1`. Refusals: [`Refusal::ZeroTarget`], then [`Refusal::BadMax`].
 ///
 /// ```
-/// use ogruspinu::{Refusal, fpga, time::Hertz};
+/// use ogruspinu::{Refusal, time::Hertz, two_stage};
 ///
 /// let (reference, target) = (Hertz::from_raw(1_000_000_000), Hertz::from_raw(12_288_000));
-/// let pair = fpga::find_two_stage_divisors(reference, target, 63)?;
+/// let pair = two_stage::find_two_stage_divisors(reference, target, 63)?;
 /// assert_eq!((pair.div0, pair.div1), (3, 27));
-/// let nobody = fpga::find_two_stage_divisors(reference, Hertz::from_raw(0), 63);
+/// let nobody = two_stage::find_two_stage_divisors(reference, Hertz::from_raw(0), 63);
 /// assert_eq!(nobody, Err(Refusal::ZeroTarget));
 /// # Ok::<(), Refusal>(())
 /// ```
@@ -41,7 +41,7 @@ pub fn find_two_stage_divisors(
 /// The frequency that a pair gives, 0 where one of its divisors is 0.
 ///
 /// ```
-/// use ogruspinu::{fpga::{DivisorPair, two_stage_frequency}, time::Hertz};
+/// use ogruspinu::{time::Hertz, two_stage::{DivisorPair, two_stage_frequency}};
 ///
 /// let pair = DivisorPair { div0: 3, div1: 27 };
 /// let frequency = two_stage_frequency(Hertz::from_raw(1_000_000_000), pair);

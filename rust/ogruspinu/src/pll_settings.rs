@@ -1,18 +1,7 @@
-//! PLL settings, and the sequence of register accesses that brings one into effect.
-mod run;
-mod sequence;
-mod start;
-
+//! PLL settings: those that the manual has for a multiplier.
 use crate::raw;
 use crate::refusal::{Refusal, words_or};
 use crate::time::Hertz;
-pub use run::{Access, End, Run, run_pll_unchecked};
-pub use sequence::{BootPllConfig, PllSequence, PllType, Request};
-pub use start::{
-    PllMarks, configure_arm_pll, configure_arm_pll_unchecked, configure_ddr_pll,
-    configure_ddr_pll_unchecked, configure_io_pll, configure_io_pll_unchecked, configure_pll,
-    configure_pll_unchecked,
-};
 
 /// The smallest multiplier.
 pub const PLL_MUL_MIN: u32 = 13;
@@ -32,7 +21,7 @@ impl PllConfig {
     /// The manual's setting for a multiplier. Refusal: [`Refusal::MulRange`].
     ///
     /// ```
-    /// use ogruspinu::{Refusal, pll::PllConfig};
+    /// use ogruspinu::{Refusal, pll_settings::PllConfig};
     ///
     /// assert_eq!(PllConfig::new(40)?, PllConfig::new_raw(40, 2, 2, 250));
     /// assert_eq!(PllConfig::new(12), Err(Refusal::MulRange(12)));
@@ -48,7 +37,7 @@ impl PllConfig {
     /// [`Refusal::MulRange`].
     ///
     /// ```
-    /// use ogruspinu::{Refusal, pll::PllConfig, time::Hertz};
+    /// use ogruspinu::{Refusal, pll_settings::PllConfig, time::Hertz};
     ///
     /// let (crystal, target) = (Hertz::from_raw(33_333_333), Hertz::from_raw(1_333_333_319));
     /// assert_eq!(PllConfig::new_from_target_clock(crystal, target)?.fdiv(), 39);
