@@ -1,8 +1,7 @@
 //! Times both sides on the same inputs, alternating, in several rounds.
-use crate::generate::Generator;
-use crate::judge::ruled;
-use crate::request::{Request, Subject};
+use crate::generate::Numbers;
 use crate::rng::Rng;
+use crate::subject::Subject;
 use std::hint::black_box;
 use std::time::{Duration, Instant};
 
@@ -30,17 +29,15 @@ pub struct Pass {
     sum: u32,
 }
 
-/// A side that can be timed; it has no calls for what is not timed.
-pub type Timed = fn(Subject, &Inputs) -> Option<Pass>;
+/// A call of one side on all inputs.
+pub type Timed = fn(&Inputs) -> Pass;
 
 impl Inputs {
-    pub fn new(subject: Subject, seed: u64, count: usize) -> Self {
-        let generator = Generator::of(subject);
-        let rng = Rng::new(seed, subject as u64);
-        let drawn = std::iter::repeat_with(|| generator.random(&rng));
-        let requests: Vec<Vec<u32>> = drawn
-            .filter(|request| ruled(request).is_none() && timed(request))
-            .map(|request| request.numbers)
+    pub fn new(subject: &dyn Subject, seed: u64, count: usize) -> Self {
+        let rng = Rng::new(seed, subject.about().stream);
+        let drawn = std::iter::repeat_with(|| subject.random(&rng));
+        let requests: Vec<Numbers> = drawn
+            .filter(|n| subject.ruled(n).is_none() && subject.is_timed(n))
             .take((count / subject.rarity()).max(FEW))
             .collect();
         Self {
@@ -90,62 +87,44 @@ impl Inputs {
     }
 }
 
-/// Of sequences those that lock at the first poll, since inputs have to be of one width.
-fn timed(request: &Request) -> bool {
-    let Request { subject, numbers } = request;
-    let at_once = |status: &u32| status >> numbers[0] & 1 == 1;
-    *subject != Subject::PllSeq || numbers.len() == 13 && at_once(&numbers[11])
-}
+/// The two sides of a call.
+pub type Sides = (Timed, Timed);
 
-/// One line for each call that both sides have: the median ratio, its spread (the middle half and the ends), both times.
-pub fn run(subjects: &[Subject], seed: u64, count: usize, rounds: usize, rust: Timed, ours: Timed) {
+/// One line for each call: the median ratio, its spread (the middle half and the ends), both times.
+pub fn run(timed: &[(&dyn Subject, Sides)], seed: u64, count: usize, rounds: usize) {
     println!(
         "{:15} {:>7}  {:15}  {:15}  {:>10} {:>10}",
         "call", "ratio", "middle half", "all", "Rust ns", "ours ns"
     );
-    for &subject in subjects {
+    for &(subject, sides) in timed {
         let inputs = Inputs::new(subject, seed, count);
-        let Some(once) = rust(subject, &inputs) else {
-            continue;
-        };
+        let once = sides.0(&inputs);
         let mut inputs = inputs.fitted(once.time);
         let round = |round| {
             inputs.begin_round(round);
-            one_round(round, subject, &inputs, rust, ours)
+            one_round(round, subject.name(), &inputs, sides)
         };
-        let times: Vec<(f64, f64)> = (0..rounds).filter_map(round).collect();
-        if !times.is_empty() {
-            println!("{:15} {}", subject.name(), line(&times, inputs.calls()));
-        }
+        let times: Vec<(f64, f64)> = (0..rounds).map(round).collect();
+        println!("{:15} {}", subject.name(), line(&times, inputs.calls()));
     }
 }
 
 /// Which side goes first alternates, so that neither always finds the other's traces.
-fn one_round(
-    round: usize,
-    subject: Subject,
-    inputs: &Inputs,
-    rust: Timed,
-    ours: Timed,
-) -> Option<(f64, f64)> {
-    let (first, second) = if round.is_multiple_of(2) {
+fn one_round(round: usize, name: &str, inputs: &Inputs, (rust, ours): Sides) -> (f64, f64) {
+    let rust_first = round.is_multiple_of(2);
+    let (first, second) = if rust_first {
         (rust, ours)
     } else {
         (ours, rust)
     };
-    let (first, second) = (first(subject, inputs)?, second(subject, inputs)?);
-    assert_eq!(
-        first.sum,
-        second.sum,
-        "the answers differ: {}",
-        subject.name()
-    );
+    let (first, second) = (first(inputs), second(inputs));
+    assert_eq!(first.sum, second.sum, "the answers differ: {name}");
     let (first, second) = (first.time.as_secs_f64(), second.time.as_secs_f64());
-    Some(if round.is_multiple_of(2) {
+    if rust_first {
         (first, second)
     } else {
         (second, first)
-    })
+    }
 }
 
 fn line(times: &[(f64, f64)], calls: usize) -> String {

@@ -1,12 +1,10 @@
 //! Feeds both sides the same requests, compares every answer, and counts.
 use crate::answer::Answer;
-use crate::generate::Generator;
-use crate::judge::{By, judged};
+use crate::generate::Numbers;
 use crate::progress::Progress;
-use crate::request::{Request, Subject};
 use crate::rng::Rng;
 use crate::shrink::{differs, smallest};
-use crate::side::Side;
+use crate::subject::{By, Subject};
 use std::fmt::{self, Display, Formatter};
 use std::ops::AddAssign;
 use std::sync::Mutex;
@@ -15,6 +13,9 @@ use std::sync::atomic::{AtomicUsize, Ordering};
 /// Requests that a thread takes at a time. Each block has its own stream of random numbers, so what is asked
 /// does not depend on how many threads there are.
 const BLOCK: usize = 1024;
+
+/// What is set beside the judge.
+pub type Side<'a> = &'a (dyn Fn(&[u32]) -> Answer + Sync);
 
 /// How much is asked.
 #[derive(Clone, Copy)]
@@ -41,48 +42,54 @@ impl AddAssign for Tally {
 
 impl Display for Tally {
     fn fmt(&self, f: &mut Formatter<'_>) -> fmt::Result {
-        write!(f, "{:>9} equal to the Rust", self.rust)?;
-        match self.rule {
-            0 => Ok(()),
-            rule => write!(f, ", {rule} to document 01 where the Rust has no answer"),
+        match (self.rust, self.rule) {
+            (0, rule) => write!(
+                f,
+                "{rule:>9} equal to document 01; the Rust has no such call"
+            ),
+            (rust, 0) => write!(f, "{rust:>9} equal to the Rust"),
+            (rust, rule) => write!(
+                f,
+                "{rust:>9} equal to the Rust, {rule} to document 01 where the Rust has no answer"
+            ),
         }
     }
 }
 
 /// An input on which the sides differ, as small as could be found.
 pub struct Difference {
-    pub request: Request,
+    pub subject: &'static dyn Subject,
+    pub numbers: Numbers,
     pub by: By,
     pub right: Answer,
     pub ours: Answer,
 }
 
 struct Work<'a> {
-    fixed: Vec<Request>,
-    generator: Generator,
+    subject: &'static dyn Subject,
+    fixed: Vec<Numbers>,
     plan: Plan,
     stream: u64,
-    ours: &'a dyn Side,
+    ours: Side<'a>,
     next: AtomicUsize,
     progress: Progress,
     /// The block with a difference that was found first in order.
-    found: Mutex<Option<(usize, Request)>>,
+    found: Mutex<Option<(usize, Numbers)>>,
 }
 
 pub fn subject(
-    subject: Subject,
+    subject: &'static dyn Subject,
     mut plan: Plan,
-    ours: &dyn Side,
+    ours: Side,
 ) -> Result<Tally, Box<Difference>> {
     plan.count /= subject.rarity();
-    let generator = Generator::of(subject);
-    let fixed = [generator.edges(), generator.small()].concat();
+    let fixed = [subject.edges(), subject.small()].concat();
     let total = fixed.len() + plan.count;
     let work = Work {
+        subject,
         fixed,
-        generator,
         plan,
-        stream: (subject as u64) << 40,
+        stream: subject.about().stream << 40,
         ours,
         next: AtomicUsize::new(0),
         progress: Progress::new(subject.name(), total),
@@ -99,17 +106,18 @@ pub fn subject(
     });
     work.progress.clear();
     match work.found.into_inner().expect("no thread panicked") {
-        Some((_, request)) => Err(Box::new(difference(request, ours))),
+        Some((_, numbers)) => Err(Box::new(difference(subject, numbers, ours))),
         None => Ok(tally),
     }
 }
 
-fn difference(request: Request, ours: &dyn Side) -> Difference {
-    let request = smallest(request, ours);
-    let (right, by) = judged(&request);
-    let ours = ours.answer(&request);
+fn difference(subject: &'static dyn Subject, numbers: Numbers, ours: Side) -> Difference {
+    let numbers = smallest(subject, numbers, ours);
+    let (right, by) = subject.judged(&numbers);
+    let ours = ours(&numbers);
     Difference {
-        request,
+        subject,
+        numbers,
         by,
         right,
         ours,
@@ -135,25 +143,25 @@ impl Work<'_> {
         tally
     }
 
-    fn agree(&self, request: &Request, tally: &mut Tally) -> bool {
-        let (right, by) = judged(request);
+    fn agree(&self, request: &[u32], tally: &mut Tally) -> bool {
+        let (right, by) = self.subject.judged(request);
         match by {
             By::Rust => tally.rust += 1,
             By::Rule => tally.rule += 1,
         }
-        right == self.ours.answer(request)
+        right == (self.ours)(request)
     }
 
-    fn note(&self, block: usize, request: &Request) {
-        debug_assert!(differs(request, self.ours));
+    fn note(&self, block: usize, request: &[u32]) {
+        debug_assert!(differs(self.subject, request, self.ours));
         let mut found = self.found.lock().expect("no thread panicked");
         if found.as_ref().is_none_or(|&(first, _)| block < first) {
-            *found = Some((block, request.clone()));
+            *found = Some((block, request.to_vec()));
         }
     }
 
     /// First the fixed requests, then blocks of random ones; nothing after the last.
-    fn block(&self, block: usize) -> Option<Vec<Request>> {
+    fn block(&self, block: usize) -> Option<Vec<Numbers>> {
         let start = block * BLOCK;
         let random_blocks = self.fixed.len().div_ceil(BLOCK);
         if block < random_blocks {
@@ -167,6 +175,6 @@ impl Work<'_> {
         }
         let rng = Rng::new(self.plan.seed, self.stream | block as u64);
         let length = BLOCK.min(self.plan.count - done);
-        Some((0..length).map(|_| self.generator.random(&rng)).collect())
+        Some((0..length).map(|_| self.subject.random(&rng)).collect())
     }
 }

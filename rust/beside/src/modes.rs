@@ -1,14 +1,15 @@
 //! The driver's modes; each tells whether all went well, or how it was called wrongly.
 use crate::args::Args;
-use beside::bench::{Inputs, Timed};
+use beside::answer::Answer;
+use beside::bench::{Inputs, Sides, Timed};
 use beside::compare::{Plan, Tally};
-use beside::request::{SUBJECTS, Subject};
-use beside::side::Side;
-use beside::{bench, compare, lists, report, selftest, timed_rust};
+use beside::subject::Subject;
+use beside::subjects::SUBJECTS;
+use beside::{bench, compare, lists, report, selftest};
 
 const NO_ARCHIVE: &str = "\
 Our static library was not at hand when this was built: there is nothing to set beside the original.
-`rt staticlib archive` at the repository's top makes it; then build again.";
+rust/archive makes it, with the Rattle toolchain on PATH; then build again.";
 
 pub fn run(mode: &str, mut args: Args) -> Result<bool, String> {
     match mode {
@@ -21,7 +22,7 @@ pub fn run(mode: &str, mut args: Args) -> Result<bool, String> {
         "lists" => written(args.folder()?),
         "bench" => timed(&args),
         "subjects" => {
-            println!("{}", SUBJECTS.map(Subject::name).join("\n"));
+            println!("{}", names().join("\n"));
             Ok(true)
         }
         "calls" => {
@@ -42,32 +43,36 @@ fn plan(args: &Args, usual_count: usize) -> Result<Plan, String> {
     })
 }
 
-fn subjects(args: &Args) -> Result<Vec<Subject>, String> {
-    let wanted = |subject: &Subject| args.only.as_ref().is_none_or(|name| name == subject.name());
-    let chosen: Vec<Subject> = SUBJECTS.into_iter().filter(wanted).collect();
+fn names() -> Vec<&'static str> {
+    SUBJECTS.iter().map(|subject| subject.name()).collect()
+}
+
+fn subjects(args: &Args) -> Result<Vec<&'static dyn Subject>, String> {
+    let wanted =
+        |subject: &&dyn Subject| args.only.as_ref().is_none_or(|name| name == subject.name());
+    let chosen: Vec<&dyn Subject> = SUBJECTS.iter().copied().filter(wanted).collect();
     if chosen.is_empty() {
-        let names = SUBJECTS.map(Subject::name).join(", ");
-        return Err(format!("the subjects are {names}"));
+        return Err(format!("the subjects are {}", names().join(", ")));
     }
     Ok(chosen)
 }
 
-fn compared(subjects: &[Subject], plan: Plan, ours: Ours) -> bool {
+fn compared(subjects: &[&'static dyn Subject], plan: Plan, ours: Ours) -> bool {
     let mut all = Tally::default();
     for &subject in subjects {
         let name = subject.name();
-        match compare::subject(subject, plan, ours.side) {
+        match compare::subject(subject, plan, &|n| (ours.answer)(subject, n)) {
             Ok(tally) => {
-                println!("{name:15} {tally}");
+                println!("{name:19} {tally}");
                 all += tally;
             }
             Err(found) => {
-                println!("{name:15} DIFFERENT\n{}", report::difference(&found));
+                println!("{name:19} DIFFERENT\n{}", report::difference(&found));
                 return false;
             }
         }
     }
-    println!("{:15} {all}; differences 0", "all");
+    println!("{:19} {all}; differences 0", "all");
     true
 }
 
@@ -82,15 +87,20 @@ fn written(folder: &str) -> Result<bool, String> {
 fn timed(args: &Args) -> Result<bool, String> {
     let (seed, count) = args.seed_and_count(2_000)?;
     let subjects = subjects(args)?;
-    let rust: Timed = timed_rust::timed;
-    let ours = if args.control {
-        Some(rust)
+    let ours: fn(&dyn Subject) -> Option<Timed> = if args.control {
+        |subject| subject.rust_timed()
     } else {
-        ours().map(|ours| ours.timed)
+        match ours() {
+            Some(ours) => ours.timed,
+            None => return Ok(true),
+        }
     };
-    if let Some(ours) = ours {
-        bench::run(&subjects, seed, count, args.rounds, rust, ours);
-    }
+    let sides = |&subject: &&'static dyn Subject| {
+        let sides = (subject.rust_timed()?, ours(subject)?);
+        Some((subject, sides))
+    };
+    let timed: Vec<(&dyn Subject, Sides)> = subjects.iter().filter_map(sides).collect();
+    bench::run(&timed, seed, count, args.rounds);
     Ok(true)
 }
 
@@ -101,26 +111,29 @@ fn called(side: &str, args: &Args) -> Result<bool, String> {
         return Err("one subject is wanted, by --only".to_owned());
     };
     let timed = match side {
-        "rust" => Some(timed_rust::timed as Timed),
-        _ => ours().map(|ours| ours.timed),
+        "rust" => subject.rust_timed(),
+        _ => ours().and_then(|ours| (ours.timed)(subject)),
     };
-    let inputs = Inputs::new(subject, seed, count);
-    let pass = timed.and_then(|timed| timed(subject, &inputs));
-    println!("{}", pass.map_or(0, |_| inputs.calls()));
+    let calls = timed.map_or(0, |timed| {
+        let inputs = Inputs::new(subject, seed, count);
+        timed(&inputs);
+        inputs.calls()
+    });
+    println!("{calls}");
     Ok(true)
 }
 
 /// Our side, if the static library is linked.
 #[derive(Clone, Copy)]
 struct Ours {
-    side: &'static dyn Side,
-    timed: Timed,
+    answer: fn(&dyn Subject, &[u32]) -> Answer,
+    timed: fn(&dyn Subject) -> Option<Timed>,
 }
 
 #[cfg(archive)]
 const OURS: Option<Ours> = Some(Ours {
-    side: &beside::ours::Ours,
-    timed: beside::timed_ours::timed,
+    answer: |subject, n| subject.ours(n),
+    timed: |subject| subject.ours_timed(),
 });
 #[cfg(not(archive))]
 const OURS: Option<Ours> = None;

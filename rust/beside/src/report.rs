@@ -1,18 +1,19 @@
 //! A difference in words.
 use crate::compare::Difference;
-use crate::judge::By;
+use crate::subject::By;
 
 pub fn difference(found: &Difference) -> String {
-    let subject = found.request.subject;
     let judge = match found.by {
         By::Rust => "the Rust",
         By::Rule => "document 01",
     };
-    let (mut right, mut ours) = (found.right.line(subject), found.ours.line(subject));
+    let line = |answer| found.subject.line(answer);
+    let (mut right, mut ours) = (line(&found.right), line(&found.ours));
     if right == ours {
         // The lines are alike: what differs lies in lent memory.
         right += &format!(" {:?}", found.right.numbers);
         ours += &format!(" {:?}", found.ours.numbers);
     }
-    format!("  {}\n  {judge}: {right}\n  ours: {ours}", found.request)
+    let request = found.subject.request(&found.numbers);
+    format!("  {request}\n  {judge}: {right}\n  ours: {ours}")
 }

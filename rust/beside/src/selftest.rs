@@ -1,53 +1,45 @@
 //! Sees that the comparison finds each planted fault, and finds nothing where there is none.
-use crate::compare::{self, Plan};
-use crate::faults::{FAULTS, Fault, Faulty, OWN_FORMULAS};
-use crate::judge::judged;
+use crate::compare::{self, Difference, Plan};
 use crate::report;
-use crate::request::{Request, SUBJECTS};
-use crate::side::Side;
-
-/// The judge itself as the other side: what the comparison says of right answers.
-struct Right;
-
-impl Side for Right {
-    fn answer(&self, request: &Request) -> crate::answer::Answer {
-        judged(request).0
-    }
-}
+use crate::subject::Subject;
+use crate::subjects::SUBJECTS;
 
 /// Whether every fault was found and no other difference.
 pub fn run(plan: Plan) -> bool {
     let mut passed = true;
-    for subject in SUBJECTS {
+    for &subject in SUBJECTS {
+        // The judge itself as the other side: what the comparison says of right answers.
+        let right = |n: &[u32]| subject.judged(n).0;
         passed &= quiet(
-            compare::subject(subject, plan, &Right).is_ok(),
-            subject.name(),
+            compare::subject(subject, plan, &right),
+            subject,
+            "the judge",
         );
-    }
-    for subject in OWN_FORMULAS {
-        let agrees = compare::subject(subject, plan, &Faulty(Fault::None)).is_ok();
-        passed &= quiet(agrees, "our own small formulas");
-    }
-    for &(fault, subjects) in FAULTS {
-        for &subject in subjects {
-            let found = compare::subject(subject, plan, &Faulty(fault)).err();
-            passed &= caught(fault, found);
+        if let Some(formula) = subject.formula() {
+            let agrees = compare::subject(subject, plan, &formula);
+            passed &= quiet(agrees, subject, "our own small formula");
+        }
+        for fault in subject.faults() {
+            passed &= caught(fault.0, compare::subject(subject, plan, &fault.1));
         }
     }
     passed
 }
 
-fn quiet(agrees: bool, what: &str) -> bool {
-    if !agrees {
-        println!("MISTAKEN  a difference where there is none: {what}");
+type Compared = Result<compare::Tally, Box<Difference>>;
+
+fn quiet(compared: Compared, subject: &dyn Subject, what: &str) -> bool {
+    if compared.is_err() {
+        let name = subject.name();
+        println!("MISTAKEN  a difference where there is none: {what} of {name}");
     }
-    agrees
+    compared.is_ok()
 }
 
-fn caught(fault: Fault, found: Option<Box<compare::Difference>>) -> bool {
-    match &found {
-        Some(difference) => println!("caught    {fault:?}\n{}", report::difference(difference)),
-        None => println!("MISSED    {fault:?}"),
+fn caught(fault: &str, compared: Compared) -> bool {
+    match &compared {
+        Err(difference) => println!("caught    {fault}\n{}", report::difference(difference)),
+        Ok(_) => println!("MISSED    {fault}"),
     }
-    found.is_some()
+    compared.is_err()
 }

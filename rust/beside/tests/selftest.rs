@@ -2,6 +2,8 @@
 #![cfg(original)]
 use beside::compare::Plan;
 use beside::selftest;
+use beside::subjects::SUBJECTS;
+use std::collections::HashSet;
 
 #[test]
 fn every_planted_fault_is_found() {
@@ -11,4 +13,15 @@ fn every_planted_fault_is_found() {
         threads: 2,
     };
     assert!(selftest::run(plan));
+}
+
+#[test]
+fn names_and_streams_are_a_subjects_own() {
+    let names: HashSet<_> = SUBJECTS.iter().map(|subject| subject.name()).collect();
+    let streams = SUBJECTS.iter().map(|subject| subject.about().stream);
+    let streams: HashSet<_> = streams.collect();
+    assert_eq!(
+        (names.len(), streams.len()),
+        (SUBJECTS.len(), SUBJECTS.len())
+    );
 }

@@ -4,10 +4,10 @@ use crate::time::Hertz;
 use arbitrary_int::u6;
 use device::WORDS;
 
-/// How many numbers an evaluation gives: 25 in the desk's order, and whether trace is EMIO's.
+/// How many numbers an evaluation gives: 25 in the desk's order, and behind the trace clock whether it is EMIO's.
 pub const CLOCK_NUMBERS: usize = 26;
-/// Where that last number stands; it is 1 where there is no trace clock, and the trace number is 0 then.
-pub const EMIO: usize = 25;
+/// Where that number stands; it is 1 where there is no trace clock, and the trace number is 0 then.
+pub const EMIO: usize = 21;
 
 /// GEM words that pass the IO, ARM and DDR PLL on undivided.
 const UNDIVIDED: [u32; 3] = [0x0010_0100, 0x0010_0120, 0x0010_0130];
@@ -136,11 +136,11 @@ fn numbers(clocks: &Clocks) -> [u32; CLOCK_NUMBERS] {
         io.can_clk().to_raw(),
         io.pcap_2x_clk().to_raw(),
         trace.map_or(0, |clock| clock.to_raw()),
+        u32::from(trace.is_none()),
         fpga0,
         fpga1,
         fpga2,
         fpga3,
-        u32::from(trace.is_none()),
     ]
 }
 

@@ -90,7 +90,7 @@ fn evaluation() {
     image[28] = 0x01B0_0300;
     image[25] = 0x100;
     let clocks = original::clocks(1_000_000_000, &image).expect("no divisor is 0");
-    assert_eq!(clocks[21], 12_345_679);
+    assert_eq!(clocks[original::EMIO + 1], 12_345_679);
     image[17] = 0x0010_0000;
     assert_eq!(original::gem(true, 1_000, &image), Err(13));
     assert_eq!(original::gem(false, 1_000, &image), Ok(1_000));

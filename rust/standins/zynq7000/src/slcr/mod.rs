@@ -47,7 +47,7 @@ impl ClockControlRegisters {
     /// The value must not outlive the run for which the thread's device was set up.
     #[inline]
     pub unsafe fn new_mmio_fixed() -> MmioClockControlRegisters {
-        // SAFETY: Upheld by the caller.
+        // SAFETY: the caller keeps to what is asked above.
         MmioClockControlRegisters(unsafe { device::Registers::at_hand() })
     }
 }

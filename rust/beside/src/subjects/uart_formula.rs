@@ -1,48 +1,6 @@
-//! Document 01's searches in small formulas of our own, each with the places where a slip can be planted.
+//! For both UART subjects: the searches in a small formula of our own, with the places where a slip can be planted.
+use super::uart_list::UNTOUCHED;
 use crate::answer::Answer;
-use crate::side::UNTOUCHED;
-
-/// Both divisors; optionally only the divisor at or below the ideal one is tried, or the later of a tie is kept.
-pub fn two_stage(
-    reference: u32,
-    target: u32,
-    largest: u32,
-    only_below: bool,
-    later: bool,
-) -> [u32; 2] {
-    let (reference, target) = (u64::from(reference), u64::from(target));
-    let mut best = (u64::MAX, [1, 1]);
-    for first in 1..=u64::from(largest) {
-        let ideal = (reference / (target * first)).clamp(1, largest.into());
-        let above = (ideal + 1).min(largest.into());
-        for second in [ideal, if only_below { ideal } else { above }] {
-            let off = (reference / (first * second)).abs_diff(target);
-            if off < best.0 || later && off == best.0 {
-                best = (off, [first as u32, second as u32]);
-            }
-        }
-        // Nothing is nearer than this, and a later tie could only be kept by that slip.
-        if best.0 == 0 && !later {
-            break;
-        }
-    }
-    best.1
-}
-
-/// The register values for an attainable speed; optionally the later of a tie is kept.
-pub fn i2c(reference: u32, fast: bool, later: bool) -> [u32; 2] {
-    let aim = if fast { 384_600u32 } else { 90_000 };
-    let mut best = (u32::MAX, [0, 0]);
-    for a in 1..=4 {
-        for b in 1..=64 {
-            let off = aim.abs_diff(reference / (22 * a * b));
-            if off < best.0 || later && off == best.0 {
-                best = (off, [a - 1, b - 1]);
-            }
-        }
-    }
-    best.1
-}
 
 /// The UART's searches, with their slips.
 pub struct Uart {
@@ -60,10 +18,36 @@ pub struct Uart {
     pub last_divider: u32,
 }
 
+/// Without a slip.
+pub const RIGHT: Uart = Uart {
+    halves_to_even: false,
+    later_on_a_tie: false,
+    wide_product: false,
+    wide_error: false,
+    truncated_inputs: false,
+    limit_is_viable: false,
+    widest_cd: 65_535,
+    last_divider: 254,
+};
+
+/// Faults that are one number of [`RIGHT`] changed, by the search in which they show.
+macro_rules! slips {
+    ($search:ident: $($name:literal: $field:ident = $value:literal;)*) => {
+        vec![$($crate::subject::Fault($name, |n| {
+            let searches = $crate::subjects::uart_formula::Uart {
+                $field: $value,
+                ..$crate::subjects::uart_formula::RIGHT
+            };
+            searches.$search(n)
+        })),*]
+    };
+}
+pub(super) use slips;
+
 impl Uart {
-    pub fn best(&self, reference: u32, baud: u32) -> Answer {
+    pub fn best(&self, n: &[u32]) -> Answer {
         let mut best: Option<(u32, u32, f32)> = None;
-        for candidate in self.candidates(reference, baud) {
+        for candidate in self.candidates(n) {
             let better = |kept: (u32, u32, f32)| {
                 candidate.2 < kept.2 || self.later_on_a_tie && candidate.2 == kept.2
             };
@@ -71,15 +55,16 @@ impl Uart {
                 best = Some(candidate);
             }
         }
-        best.map_or_else(|| Answer::refused(8), |pair| Answer::given(record(pair)))
+        best.map_or_else(|| Answer::refused(8), |pair| Answer::given(numbers(pair)))
     }
 
     /// The list in so many lent records, or refusal 9 with all of them as they were.
-    pub fn list(&self, reference: u32, baud: u32, room: u32) -> Answer {
+    pub fn list(&self, n: &[u32]) -> Answer {
+        let room = n[2];
         let viable =
             |pair: &(u32, u32, f32)| pair.2 < 0.005 || self.limit_is_viable && pair.2 == 0.005;
-        let viable = self.candidates(reference, baud).filter(viable);
-        let viable: Vec<[u32; 3]> = viable.map(record).collect();
+        let viable = self.candidates(n).filter(viable);
+        let viable: Vec<[u32; 3]> = viable.map(numbers).collect();
         let mut lent = vec![UNTOUCHED; room as usize];
         let count = viable.len() as u32;
         let mut answer = Answer::carrying(9, count);
@@ -91,8 +76,8 @@ impl Uart {
         answer
     }
 
-    fn candidates(&self, reference: u32, baud: u32) -> impl Iterator<Item = (u32, u32, f32)> {
-        let (reference, target) = (self.float(reference), self.float(baud));
+    fn candidates(&self, n: &[u32]) -> impl Iterator<Item = (u32, u32, f32)> {
+        let (reference, target) = (self.float(n[0]), self.float(n[1]));
         (4..=self.last_divider).filter_map(move |bdiv| {
             let cd = self.whole(self.quotient(reference, (bdiv + 1) as f32, target));
             let fits = (1..=self.widest_cd).contains(&cd);
@@ -137,6 +122,6 @@ impl Uart {
     }
 }
 
-fn record((cd, bdiv, error): (u32, u32, f32)) -> [u32; 3] {
+fn numbers((cd, bdiv, error): (u32, u32, f32)) -> [u32; 3] {
     [cd, bdiv, error.to_bits()]
 }

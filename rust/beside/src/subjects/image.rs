@@ -1,31 +1,8 @@
-//! Requests for the evaluation of an image, GEM clocks, updates, and the pure parts of CPU and DDR set-up.
-use super::{Numbers, Sources, grid};
-use crate::request::WORDS;
+//! For the subjects of an image: a crystal and the image's words, with every field at its limits.
+use crate::answer::Answer;
+use crate::generate::Numbers;
 use crate::rng::Rng;
-
-const MAX: u32 = u32::MAX;
-
-pub const CLOCKS: Sources = Sources(image_edges, image_small, random_image);
-pub const GEM: Sources = Sources(
-    || after(&[vec![0], vec![1]], &image_edges()),
-    || after(&[vec![0], vec![1]], &gem_small()),
-    |rng| [vec![rng.below(2)], random_image(rng)].concat(),
-);
-pub const UPDATE: Sources = Sources(
-    || after(&grid([0..=6, 123..=123]), &[typical(), typical_emio()]),
-    || after(&grid([0..=6, 0..=3]), &[typical()]),
-    |rng| [vec![rng.below(7), rng.magnitude(32)], random_image(rng)].concat(),
-);
-pub const CPU_INIT: Sources = Sources(
-    || at_both_ends(&grid([0..=1, 0..=65])),
-    || grid([0..=60, 0..=1, 0..=64]),
-    |rng| vec![rng.magnitude(32), rng.below(2), rng.within(0, 64)],
-);
-pub const DDR_INIT: Sources = Sources(
-    || at_both_ends(&grid([0..=65, 62..=65])),
-    || grid([0..=12, 0..=12, 0..=12]),
-    |rng| vec![rng.magnitude(32), rng.within(0, 64), rng.within(0, 64)],
-);
+use original::WORDS;
 
 /// A field of an image: its word, lowest bit and width.
 type Place = (usize, u32, u32);
@@ -83,7 +60,7 @@ const SELECTING: [Place; 18] = [
 ];
 
 /// A crystal and the image of a board that has been started, with divisors and sources of many kinds.
-fn typical() -> Numbers {
+pub fn typical() -> Numbers {
     let mut numbers = vec![0; 1 + WORDS];
     numbers[0] = 33_333_333;
     let words = [
@@ -118,7 +95,7 @@ fn typical() -> Numbers {
     numbers
 }
 
-fn typical_emio() -> Numbers {
+pub fn typical_emio() -> Numbers {
     changed(&typical(), (25, 4, 3), 5)
 }
 
@@ -131,7 +108,7 @@ fn changed(numbers: &[u32], (word, lowest, width): Place, value: u32) -> Numbers
 }
 
 /// Every single field of the typical image at each of its values.
-fn image_small() -> Vec<Numbers> {
+pub fn small() -> Vec<Numbers> {
     let base = typical();
     let values = |&place: &Place| {
         let base = &base;
@@ -140,18 +117,7 @@ fn image_small() -> Vec<Numbers> {
     CHECKED.iter().chain(&SELECTING).flat_map(values).collect()
 }
 
-fn gem_small() -> Vec<Numbers> {
-    let mut all = Vec::new();
-    for n in grid([0..=7, 0..=3, 0..=3]) {
-        let word = n[0] << 4 | n[1] << 8 | n[2] << 20;
-        let mut numbers = typical();
-        numbers[1 + 16..=1 + 17].fill(word);
-        all.push(numbers);
-    }
-    all
-}
-
-fn image_edges() -> Vec<Numbers> {
+pub fn edges() -> Vec<Numbers> {
     let base = typical();
     let mut all = vec![base.clone(), typical_emio()];
     all.push(changed(&typical_emio(), (25, 8, 6), 0));
@@ -164,7 +130,7 @@ fn image_edges() -> Vec<Numbers> {
     // The largest crystal whose product fits, and one more; then with a zero somewhere as well.
     for fdiv in [1, 2, 3, 40, 63, 64, 126, 127] {
         for pll in 0..3 {
-            for crystal in [MAX / fdiv, (MAX / fdiv).wrapping_add(1)] {
+            for crystal in [u32::MAX / fdiv, (u32::MAX / fdiv).wrapping_add(1)] {
                 let ones = (0..3).fold(base.clone(), |n, pll| changed(&n, (pll, 12, 7), 1));
                 let mut numbers = changed(&ones, (pll, 12, 7), fdiv);
                 numbers[0] = crystal;
@@ -181,7 +147,7 @@ fn image_edges() -> Vec<Numbers> {
     all
 }
 
-fn random_image(rng: &Rng) -> Numbers {
+pub fn random(rng: &Rng) -> Numbers {
     let mut numbers = typical();
     match rng.below(4) {
         0 => numbers.iter_mut().for_each(|word| *word = rng.word()),
@@ -201,30 +167,33 @@ fn random_image(rng: &Rng) -> Numbers {
     }
     numbers[0] = match rng.below(8) {
         0 => rng.magnitude(32),
-        1 => rng.near(MAX / rng.within(1, 127)),
+        1 => rng.near(u32::MAX / rng.within(1, 127)),
         _ => rng.magnitude(25),
     };
     numbers
 }
 
-/// Every image after every head.
-fn after(heads: &[Numbers], images: &[Numbers]) -> Vec<Numbers> {
-    let with = |head: &Numbers| {
-        let head = head.clone();
-        images.iter().map(move |image| [&head[..], image].concat())
-    };
-    heads.iter().flat_map(with).collect()
+/// Document 01's refusals of a crystal and an image that the original has not.
+pub fn ruled(n: &[u32]) -> Option<Answer> {
+    let (crystal, words) = (n[0], &n[1..]);
+    if words.len() != WORDS {
+        return Some(Answer::refused(1));
+    }
+    let multipliers = [words[0], words[1], words[2]].map(|control| control >> 12 & 127);
+    let fits = |&by: &u32| crystal.checked_mul(by).is_some();
+    let refused = !multipliers.contains(&0) && !multipliers.iter().all(fits);
+    refused.then(|| Answer::carrying(3, 0))
 }
 
-fn at_both_ends(tails: &[Numbers]) -> Vec<Numbers> {
-    after(
-        &[
-            vec![0],
-            vec![1],
-            vec![1_333_333_320],
-            vec![MAX - 1],
-            vec![MAX],
-        ],
-        tails,
-    )
+/// The words of what is not ruled.
+pub fn words(words: &[u32]) -> &[u32; WORDS] {
+    words.try_into().expect("any other length is ruled")
+}
+
+/// The original's numbers, or the module whose divisor is 0.
+pub fn evaluated<const N: usize>(found: Result<[u32; N], u32>) -> Answer {
+    match found {
+        Ok(numbers) => Answer::given(numbers),
+        Err(module) => Answer::carrying(2, module),
+    }
 }

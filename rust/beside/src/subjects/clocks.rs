@@ -1,0 +1,105 @@
+//! The evaluation of an image: crystal, the image's words. It gives 26 numbers: the desk's 25, and behind the trace clock
+//! whether it is EMIO's.
+use super::image;
+use crate::answer::Answer;
+use crate::bench::Timed;
+use crate::generate::Numbers;
+use crate::rng::Rng;
+use crate::subject::{About, Fault, Subject};
+use original::{CLOCK_NUMBERS, EMIO};
+
+pub struct Clocks;
+
+impl Subject for Clocks {
+    fn about(&self) -> About {
+        About {
+            name: "clocks",
+            stream: 9,
+            list: Some([usize::MAX, 800, 1_200]),
+        }
+    }
+
+    fn edges(&self) -> Vec<Numbers> {
+        image::edges()
+    }
+
+    fn small(&self) -> Vec<Numbers> {
+        image::small()
+    }
+
+    fn random(&self, rng: &Rng) -> Numbers {
+        image::random(rng)
+    }
+
+    fn ruled(&self, n: &[u32]) -> Option<Answer> {
+        image::ruled(n)
+    }
+
+    fn original(&self, n: &[u32]) -> Answer {
+        image::evaluated(original::clocks(n[0], image::words(&n[1..])))
+    }
+
+    #[cfg(archive)]
+    fn ours(&self, n: &[u32]) -> Answer {
+        crate::lent::words::<CLOCK_NUMBERS>(|out| ogruspinu::raw::clocks(n[0], &n[1..], out))
+    }
+
+    fn faults(&self) -> Vec<Fault> {
+        vec![
+            Fault("TwoTimesOneInEvaluation", |n| {
+                let mut answer = Clocks.judged(n).0;
+                if answer.refused == 0 {
+                    answer.numbers[6] = 2 * answer.numbers[5];
+                }
+                answer
+            }),
+            Fault("TraceUncheckedUnderEmio", |n| {
+                let mut asked = n.to_vec();
+                let trace = asked.get_mut(1 + 25);
+                if let Some(word) = trace.filter(|word| **word & 0x3F40 == 0x40) {
+                    *word |= 0x100;
+                }
+                Clocks.judged(&asked).0
+            }),
+            Fault("DdrAndArmNumbersSwapped", |n| {
+                let mut answer = Clocks.judged(n).0;
+                if matches!(answer.carried, 1 | 2) {
+                    answer.carried = 3 - answer.carried;
+                }
+                answer
+            }),
+        ]
+    }
+
+    fn request(&self, n: &[u32]) -> String {
+        self.with_words(n, 1)
+    }
+
+    fn given(&self, numbers: &[u32]) -> String {
+        let mut words: Vec<String> = numbers.iter().map(u32::to_string).collect();
+        if words.remove(EMIO) == "1" {
+            words[EMIO - 1] = "emio".to_owned();
+        }
+        format!("ok {}", words.join(" "))
+    }
+
+    fn rust_timed(&self) -> Option<Timed> {
+        Some(|inputs| {
+            inputs.each(|n| {
+                let clocks = original::evaluate(n[0], image::words(&n[1..]));
+                clocks.map_or(0, |clocks| clocks.pl_clocks()[3].to_raw())
+            })
+        })
+    }
+
+    #[cfg(archive)]
+    fn ours_timed(&self) -> Option<Timed> {
+        use ogruspinu::{clocks::Clocks, time::Hertz};
+        Some(|inputs| {
+            inputs.each(|n| {
+                let clocks = Clocks::new_from_regs(Hertz::from_raw(n[0]), &n[1..]);
+                clocks.map_or(0, |clocks| clocks.pl_clocks()[3].to_raw())
+            })
+        })
+    }
+}

@@ -1,0 +1,45 @@
+//! The subjects, a file each. A new one is its file and its two lines here.
+mod clocks;
+mod cpu_init;
+mod ddr_init;
+mod gem;
+mod i2c;
+mod i2c_speed;
+mod image;
+mod pll_mul;
+mod pll_seq;
+mod pll_target;
+mod starts;
+#[cfg(archive)]
+mod stepping;
+mod ttc;
+mod two_stage;
+mod two_stage_frequency;
+mod two_stage_large;
+mod uart;
+mod uart_formula;
+mod uart_list;
+mod update;
+
+use crate::subject::Subject;
+
+/// In the order in which the desk's list has them.
+pub const SUBJECTS: &[&dyn Subject] = &[
+    &two_stage::TwoStage,
+    &two_stage_large::TwoStageLarge,
+    &two_stage_frequency::TwoStageFrequency,
+    &i2c::I2c,
+    &i2c_speed::I2cSpeed,
+    &ttc::Ttc,
+    &pll_mul::PllMul,
+    &pll_target::PllTarget,
+    &uart::Uart,
+    &uart_list::UartList,
+    &pll_seq::PllSeq,
+    &starts::Starts,
+    &cpu_init::CpuInit,
+    &ddr_init::DdrInit,
+    &clocks::Clocks,
+    &gem::Gem,
+    &update::Update,
+];
