@@ -10,6 +10,7 @@ mod pll_mul;
 mod pll_seq;
 mod pll_target;
 mod starts;
+mod starts_formula;
 #[cfg(archive)]
 mod stepping;
 mod ttc;

@@ -19,7 +19,7 @@ const ACCESSES_BEFORE_POLLS: usize = 9;
 /// The most that fits each of the setting's fields.
 pub const WIDEST: [u32; 4] = [127, 15, 15, 1_023];
 /// How many values the types have in which the fields are passed: three bytes and 16 bits.
-pub const HELD: [u32; 4] = [256, 256, 256, 65_536];
+const HELD: [u32; 4] = [256, 256, 256, 65_536];
 
 pub struct PllSeq;
 
@@ -39,9 +39,9 @@ impl Subject for PllSeq {
             for bypassed in 0..2 {
                 for word in [0, u32::MAX, 0x0001_A008, 0x0002_8018] {
                     for setting in [[0; 4], WIDEST, [40, 2, 2, 250]] {
-                        let mut run = |limit, polls: &[u32]| {
-                            let reads = [&[word; 4], polls, &[word]].concat();
-                            all.push(sequence(pll, bypassed, setting, limit, &reads));
+                        let mut run = |polls, seen: &[u32]| {
+                            let reads = [&[word; 4], seen, &[word]].concat();
+                            all.push(sequence(pll, bypassed, setting, polls, &reads));
                         };
                         run(1, &[lock]);
                         run(3, &[others, !lock, u32::MAX]);
@@ -82,11 +82,7 @@ impl Subject for PllSeq {
 
     fn random(&self, rng: &Rng) -> Numbers {
         let pll = rng.below(3);
-        let mut setting = WIDEST.map(|most| rng.within(0, most));
-        if rng.one_in(40) {
-            let field = rng.below(4) as usize;
-            setting[field] = rng.below(HELD[field]);
-        }
+        let setting = random_setting(rng);
         let mut reads: Vec<u32> = (0..4).map(|_| rng.word()).collect();
         let clear = match rng.below(4) {
             0 => rng.magnitude(9),
@@ -97,11 +93,11 @@ impl Subject for PllSeq {
         if rng.one_in(10) {
             reads.truncate(rng.below(reads.len() as u32) as usize);
         }
-        let limit = match rng.below(4) {
+        let polls = match rng.below(4) {
             0 => rng.magnitude(16),
             _ => (clear + rng.below(3)).max(1),
         };
-        sequence(pll, rng.below(2), setting, limit, &reads)
+        sequence(pll, rng.below(2), setting, polls, &reads)
     }
 
     /// Without the last word.
@@ -207,6 +203,16 @@ impl Subject for PllSeq {
 pub fn sequence(pll: u32, bypassed: u32, setting: [u32; 4], polls: u32, reads: &[u32]) -> Numbers {
     let head = [pll, bypassed].into_iter().chain(setting).chain([polls]);
     head.chain(reads.iter().copied()).collect()
+}
+
+/// One that fits, and now and then one that does not.
+pub fn random_setting(rng: &Rng) -> [u32; 4] {
+    let mut setting = WIDEST.map(|most| rng.within(0, most));
+    if rng.one_in(40) {
+        let field = rng.below(4) as usize;
+        setting[field] = rng.below(HELD[field]);
+    }
+    setting
 }
 
 /// The refusal of no polls or of a setting too wide.

@@ -1,6 +1,7 @@
 //! A run of starts on one device, each once-only or unchecked: the numbers of each start, as [`Start`] has them. It gives for
 //! each start how it ended, the marks after it and its accesses, as [`Told`] orders them.
-use super::pll_seq::{HELD, PllSeq, WIDEST, by_original, sequence, unfit, waiting};
+use super::pll_seq::{PllSeq, WIDEST, by_original, random_setting, sequence, unfit, waiting};
+use super::starts_formula::Slips;
 use crate::answer::{Answer, STARVED};
 use crate::generate::{Numbers, grid};
 use crate::rng::Rng;
@@ -136,39 +137,39 @@ impl Subject for Starts {
 }
 
 /// One start of a request.
-struct Start<'a> {
-    unchecked: bool,
+pub struct Start<'a> {
+    pub unchecked: bool,
     /// As a request of the PLL sequence.
-    sequence: &'a [u32],
+    pub sequence: &'a [u32],
 }
 
 impl<'a> Start<'a> {
-    fn all(numbers: &'a [u32]) -> impl Iterator<Item = Self> {
+    pub fn all(numbers: &'a [u32]) -> impl Iterator<Item = Self> {
         numbers.chunks_exact(NUMBERS).map(|numbers| Self {
             unchecked: numbers[0] == 1,
             sequence: &numbers[1..],
         })
     }
 
-    fn pll(&self) -> u32 {
+    pub fn pll(&self) -> u32 {
         self.sequence[0]
     }
 }
 
 /// An answer for a run of starts, as it grows.
 #[derive(Default)]
-struct Told(Vec<u32>);
+pub struct Told(Vec<u32>);
 
 impl Told {
     /// What became of the next start, as of a sequence, and the marks after it.
-    fn add(&mut self, became: &Answer, marks: u32) {
+    pub fn add(&mut self, became: &Answer, marks: u32) {
         let accesses = became.numbers.len() as u32 / 3;
         self.0
             .extend([became.refused, became.carried, marks, accesses]);
         self.0.extend(&became.numbers);
     }
 
-    fn answer(self) -> Answer {
+    pub fn answer(self) -> Answer {
         Answer::given(self.0)
     }
 }
@@ -184,20 +185,18 @@ fn start(unchecked: bool, sequence: Numbers) -> Numbers {
 /// Words of a board that has been started; its lock shows after so many clear polls.
 fn reads(pll: u32, clear: usize) -> [u32; READS] {
     let mut reads = [0x0001_A008; READS];
-    let polls = &mut reads[4..];
-    polls.fill(7);
-    polls
-        .iter_mut()
-        .take(clear)
-        .for_each(|word| *word &= !(1 << pll));
+    reads[4..].fill(7);
+    for word in reads[4..].iter_mut().take(clear) {
+        *word &= !(1 << pll);
+    }
     reads
 }
 
-/// A start: one that locks, one that times out, one whose words run out, one with limit 0, and one with each field too wide;
+/// A start: one that locks, one that times out, one whose words run out, one with no polls, and one with each field too wide;
 /// the first two unchecked as well.
 fn kind(kind: u32, pll: u32) -> Numbers {
     let mut setting = SETTING;
-    let (limit, clear) = match kind {
+    let (polls, clear) = match kind {
         0 | 1 => (3, 1),
         2 | 3 => (2, 2),
         4 => (100, READS),
@@ -211,17 +210,13 @@ fn kind(kind: u32, pll: u32) -> Numbers {
     let unchecked = matches!(kind, 1 | 3);
     start(
         unchecked,
-        sequence(pll, kind % 2, setting, limit, &reads(pll, clear)),
+        sequence(pll, kind % 2, setting, polls, &reads(pll, clear)),
     )
 }
 
 fn random_start(rng: &Rng) -> Numbers {
     let pll = rng.below(3);
-    let mut setting = WIDEST.map(|most| rng.within(0, most));
-    if rng.one_in(40) {
-        let field = rng.below(4) as usize;
-        setting[field] = rng.below(HELD[field]);
-    }
+    let setting = random_setting(rng);
     // Four clear polls leave no word for what comes behind the lock, and five leave none with the bit set.
     let clear = rng.pick(&[0, 0, 0, 1, 1, 2, 3, rng.within(4, 5)]) as usize;
     let mut reads = [0; READS].map(|_| rng.word());
@@ -232,14 +227,14 @@ fn random_start(rng: &Rng) -> Numbers {
             _ => {}
         }
     }
-    let limit = match rng.below(32) {
+    let polls = match rng.below(32) {
         0 => 0,
         1 | 2 => rng.within(1, 5),
         _ => rng.within(6, 65_535),
     };
     start(
         rng.one_in(4),
-        sequence(pll, rng.below(2), setting, limit, &reads),
+        sequence(pll, rng.below(2), setting, polls, &reads),
     )
 }
 
@@ -298,74 +293,4 @@ fn ours(n: &[u32]) -> Answer {
         told.add(&became, marks);
     }
     told.answer()
-}
-
-/// Document 01's rules on starts, with marks of our own, and the places where a slip can be planted.
-#[derive(Default)]
-struct Slips {
-    never_marks: bool,
-    unchecked_marks: bool,
-    /// Refusal 12 or 20 leaves a mark.
-    refused_marks: bool,
-    /// A run that times out takes its mark back.
-    timeout_unmarks: bool,
-    /// The marks in evaluation's order: ARM, IO, DDR.
-    marks_swapped: bool,
-    /// Any mark stands in the way of every PLL.
-    one_for_all: bool,
-    /// Refusal 13 comes before 12 and 20.
-    already_first: bool,
-    /// Refusal 13 comes, and the accesses are made all the same.
-    already_accesses: bool,
-    /// Every run has the first one's setting.
-    first_setting: bool,
-}
-
-impl Slips {
-    fn told(&self, n: &[u32]) -> Answer {
-        let mut told = Told::default();
-        let mut marks = 0;
-        for start in Start::all(n) {
-            let became = self.became(&start, &n[3..7], &mut marks);
-            told.add(&became, marks);
-        }
-        told.answer()
-    }
-
-    fn became(&self, start: &Start, first: &[u32], marks: &mut u32) -> Answer {
-        let bit = match start.pll() {
-            0 => 1,
-            pll => 1 << if self.marks_swapped { 3 - pll } else { pll },
-        };
-        // Without a mark in its way it goes as an unchecked one.
-        let mut free = start.sequence.to_vec();
-        if self.first_setting {
-            free[2..6].copy_from_slice(first);
-        }
-        let mut became = PllSeq.judged(&free).0;
-        let refused = matches!(became.refused, 12 | 20);
-        let seen = if self.one_for_all {
-            *marks
-        } else {
-            *marks & bit
-        };
-        if !start.unchecked && seen != 0 && (!refused || self.already_first) {
-            let made = self.already_accesses.then_some(became.numbers);
-            became = Answer::refused(13);
-            became.numbers = made.unwrap_or_default();
-        } else if self.marks(start, &became) {
-            *marks |= bit;
-        }
-        became
-    }
-
-    fn marks(&self, start: &Start, became: &Answer) -> bool {
-        let once = !start.unchecked || self.unchecked_marks;
-        let left = match became.refused {
-            12 | 20 => self.refused_marks,
-            11 => !self.timeout_unmarks,
-            _ => true,
-        };
-        once && left && !self.never_marks
-    }
 }

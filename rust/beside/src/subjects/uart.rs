@@ -107,12 +107,6 @@ impl Subject for Uart {
     fn faults(&self) -> Vec<Fault> {
         slips! { best:
             "LaterOfUartTie": later_on_a_tie = true;
-            "HalvesToEven": halves_to_even = true;
-            "CdOf65536": widest_cd = 65_536;
-            "DividerOf255": last_divider = 255;
-            "InputsTruncated": truncated_inputs = true;
-            "ProductNotRounded": wide_product = true;
-            "ErrorRoundedOnce": wide_error = true;
         }
     }
 

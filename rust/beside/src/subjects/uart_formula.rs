@@ -30,9 +30,20 @@ pub const RIGHT: Uart = Uart {
     last_divider: 254,
 };
 
-/// Faults that are one number of [`RIGHT`] changed, by the search in which they show.
+/// Faults that are one number of [`RIGHT`] changed, by the search in which they show: those of both searches, and others.
 macro_rules! slips {
-    ($search:ident: $($name:literal: $field:ident = $value:literal;)*) => {
+    ($search:ident: $($others:tt)*) => {
+        slips! { @all $search:
+            "HalvesToEven": halves_to_even = true;
+            "CdOf65536": widest_cd = 65_536;
+            "DividerOf255": last_divider = 255;
+            "InputsTruncated": truncated_inputs = true;
+            "ProductNotRounded": wide_product = true;
+            "ErrorRoundedOnce": wide_error = true;
+            $($others)*
+        }
+    };
+    (@all $search:ident: $($name:literal: $field:ident = $value:literal;)*) => {
         vec![$($crate::subject::Fault($name, |n| {
             let searches = $crate::subjects::uart_formula::Uart {
                 $field: $value,

@@ -60,12 +60,6 @@ impl Subject for UartList {
 
     fn faults(&self) -> Vec<Fault> {
         let mut faults = slips! { list:
-            "HalvesToEven": halves_to_even = true;
-            "CdOf65536": widest_cd = 65_536;
-            "DividerOf255": last_divider = 255;
-            "InputsTruncated": truncated_inputs = true;
-            "ProductNotRounded": wide_product = true;
-            "ErrorRoundedOnce": wide_error = true;
             "ErrorAtLimitViable": limit_is_viable = true;
         };
         faults.push(Fault("RecordWrittenWithoutRoom", |n| {
