@@ -6,7 +6,7 @@ use crate::bench::Timed;
 use crate::generate::Numbers;
 use crate::rng::Rng;
 use crate::subject::{About, Fault, Subject};
-use original::{CLOCK_NUMBERS, EMIO};
+use original::EMIO;
 
 pub struct Clocks;
 
@@ -41,7 +41,7 @@ impl Subject for Clocks {
 
     #[cfg(archive)]
     fn ours(&self, n: &[u32]) -> Answer {
-        crate::lent::words::<CLOCK_NUMBERS>(|out| ogruspinu::raw::clocks(n[0], &n[1..], out))
+        crate::lent::words::<{ original::CLOCK_NUMBERS }>(|out| ogruspinu::raw::clocks(n[0], &n[1..], out))
     }
 
     fn faults(&self) -> Vec<Fault> {
