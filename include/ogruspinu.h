@@ -36,8 +36,8 @@ enum ogr_refusal {
     OGR_ZERO_TARGET = 6,   /* the target is 0 */
     OGR_BAD_MAX = 7,       /* the largest divisor is 0 */
     OGR_NO_PAIR = 8,       /* no UART candidate exists */
-    OGR_NO_ROOM = 9,       /* the lent row is too short; carries how many words, records or accesses there are */
-    OGR_SPEED = 10,        /* the I2C input is above 5632 times the calculation frequency */
+    OGR_NO_ROOM = 9,       /* a lent row is too short; carries how many words or records are needed */
+    OGR_SPEED = 10,        /* the I2C input is above 5632 times the frequency aimed at */
     OGR_LOCK_TIMEOUT = 11, /* the PLL is unlocked at the last allowed poll */
     OGR_BAD_LIMIT = 12,    /* the poll limit is 0 */
     OGR_ALREADY = 13,      /* a once-only PLL start is repeated */
