@@ -275,7 +275,7 @@ struct ogr_pll_step ogr_pll_start(struct ogr_pll_plan plan);
 
 /*
  * The same for a PLL that is not marked as started; it is from then on, even if the run times out. `marks` has the OGR_MARK of each PLL
- * that was started, and any other bit of it is ignored: the marks after a start have none of them.
+ * that was started, and the marks that come back have this PLL's too. Any other bit is ignored and comes back as it was.
  * Refusals: those of ogr_pll_start; then OGR_ALREADY. None changes a mark.
  */
 struct ogr_pll_started ogr_pll_start_once(struct ogr_pll_plan plan, uint32_t marks);

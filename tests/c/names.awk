@@ -9,5 +9,8 @@ function snake(t,    out, i, c) {
     return out
 }
 
-# A type without the crate that it comes from.
-function bare(t) { sub(/.*::/, "", t); return t }
+# A type without the crate that it comes from. Those of the PLL sequence are named after it outside of its crates.
+function bare(t) {
+    sub(/.*::/, "", t)
+    return t ~ /^(Plan|Run|Step|Started|Ran)$/ ? "Pll" t : t
+}

@@ -204,7 +204,7 @@ static void pll_starts_once(void)
     const uint32_t own = OGR_MARK(OGR_PLL_IO), others = OGR_MARK(OGR_PLL_ARM) | OGR_MARK(OGR_PLL_DDR), all = own | others;
     once_is(HERE, plan, 0, begun(plan), own);
     once_is(HERE, plan, others, begun(plan), all);
-    once_is(HERE, plan, ~all, begun(plan), own);
+    once_is(HERE, plan, ~all, begun(plan), ~all | own);
     once_is(HERE, plan, own, not_begun(OGR_ALREADY, plan), own);
     once_is(HERE, plan, UINT32_MAX, not_begun(OGR_ALREADY, plan), UINT32_MAX);
     for (size_t i = 0; i < WIDE; i++)

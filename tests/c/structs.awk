@@ -13,7 +13,7 @@ from == "c" { gsub(/\/\*[^*]*\*\//, "") }
 from == "rust" { sub(/\/\/.*/, "") }
 from == "c" && /^struct ogr_[a-z_]+ \{/ { sub(/^struct ogr_/, ""); line = $1 " {"; inside = 1; next }
 from == "rust" && /^#\[repr\(C\)\]/ { marked = 1; next }
-from == "rust" && marked && /^pub struct / { line = snake($3) " {"; inside = 1; marked = 0; next }
+from == "rust" && marked && /^pub struct / { line = snake(bare($3)) " {"; inside = 1; marked = 0; next }
 inside && /^\}/ { print line " }"; inside = 0 }
 inside && NF {
     field = $0

@@ -41,7 +41,9 @@ impl Subject for Clocks {
 
     #[cfg(archive)]
     fn ours(&self, n: &[u32]) -> Answer {
-        crate::lent::words::<{ original::CLOCK_NUMBERS }>(|out| ogruspinu::raw::clocks(n[0], &n[1..], out))
+        crate::lent::words::<{ original::CLOCK_NUMBERS }>(|out| {
+            ogruspinu::raw::clocks(n[0], &n[1..], out)
+        })
     }
 
     fn faults(&self) -> Vec<Fault> {

@@ -261,7 +261,7 @@ fn started(start: &Start) -> (Answer, By) {
     (became, By::Rust)
 }
 
-/// The marks are handed on; the bits above them must not matter, and come back as given where a start is refused.
+/// The marks are handed on; the bits above them must not matter, and stay.
 #[cfg(archive)]
 fn ours(n: &[u32]) -> Answer {
     use super::{pll_seq::HEAD, stepping};
@@ -274,13 +274,11 @@ fn ours(n: &[u32]) -> Answer {
         let step = if start.unchecked {
             raw::pll_start(plan)
         } else {
-            let given = marks | !7;
-            let once = raw::pll_start_once(plan, given);
-            match once.step.refusal {
-                0 => marks = once.marks,
-                _ if once.marks != given => return Answer::amiss(STRAY, &[once.marks]),
-                _ => {}
+            let once = raw::pll_start_once(plan, marks | !7);
+            if once.marks < !7 {
+                return Answer::amiss(STRAY, &[once.marks]);
             }
+            marks = once.marks & 7;
             once.step
         };
         let became = match stepping::started(plan, step) {
