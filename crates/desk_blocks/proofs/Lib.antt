@@ -1,3 +1,4 @@
 pub mod Keeping
 pub mod Parts
+pub mod Settled
 pub mod Stepping

@@ -4,11 +4,11 @@ use mathlib.Core.Bool.{Bool, true, false, true≢false, false≢true}
 use mathlib.Core.List.{List, [], _∷_, _++_, append-assoc, append-nil}
 use Prim.Native.Nat.{ℕ, _+_, _-_, _≤_, _<_}
 use native.Mathlib.Omega.{arith}
-use lib.ListN.{length, take, drop}
+use lib.ListN.{length}
 use Rattle.text.specs.Put.{Wrote}
 use Rattle.text.proofs.Writing.{as-long, nothing, then}
 use Rattle.words.specs.Words.{Until, part}
-use Rattle.desk_answers.specs.Reply.{ROOM}
+use Rattle.forms.specs.Says.{ROOM}
 use Rattle.desk_lines.specs.Line.{Line, Writes, LineAnswered}
 use Rattle.desk_lines.specs.declared.Answered.{Answered}
 use Rattle.desk_lines.specs.declared.Answered.the-variants as Answered

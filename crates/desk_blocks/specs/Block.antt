@@ -6,7 +6,7 @@ use mathlib.Core.List.{List, _++_}
 use lib.ListN.{length, drop}
 use Rattle.text.specs.Put.{Wrote}
 use Rattle.words.specs.Words.{part}
-use Rattle.desk_answers.specs.Reply.{ROOM}
+use Rattle.forms.specs.Says.{ROOM}
 use Rattle.desk_blocks.specs.Session.{NoNewline, Session}
 use Rattle.desk_blocks.specs.declared.Step.{Step}
 

@@ -16,8 +16,3 @@ pub data Session (before : Bool) : List ℕ → List ℕ → Bool → Type 0 whe
   too-long : {input texts : List ℕ} (l text : List ℕ) → Session before input texts false → NoNewline l → 1025 < length l → Line l text → Session before (input ++ l) (texts ++ text) true
   swallow : {input texts : List ℕ} (l : List ℕ) → Session before input texts true → NoNewline l → Session before (input ++ l) texts true
   swallowed : {input texts : List ℕ} (l : List ℕ) → Session before input texts true → NoNewline l → Session before (input ++ (l ++ (10 ∷ []))) texts false
-
--- Whole lines, each with its newline, and the answers to them one after the other.
-pub data Lines : List ℕ → List ℕ → Type 0 where
-  none : Lines [] []
-  more : {input texts : List ℕ} (l text : List ℕ) → Lines input texts → NoNewline l → Line l text → Lines (input ++ (l ++ (10 ∷ []))) (texts ++ text)

@@ -4,13 +4,13 @@ use Prim.Native.String.{String}
 use mathlib.Core.Path.{_≡_}
 use mathlib.Core.Bool.{cond}
 use mathlib.Core.List.{List, [], _∷_, _++_}
-use lib.Dec.{eqb}
-use lib.ListN.{length, getD}
+use lib.Dec.{eqb, ltb}
+use lib.ListN.{length}
 use Rattle.text.specs.Bytes.{bytes}
 use Rattle.text.specs.Put.{Wrote}
 use Rattle.words.specs.Words.{words}
-use Rattle.desk_answers.specs.Reply.{ROOM}
-use Rattle.desk_requests.specs.Requests.{Answer}
+use Rattle.forms.specs.Says.{ROOM}
+use Rattle.desk_requests.specs.Answer.{Answer}
 use Rattle.desk_lines.specs.declared.Answered.{Answered}
 use Rattle.desk_lines.specs.declared.Answered.the-variants as Answered
 
@@ -19,10 +19,6 @@ abbrev pub trimmed : List ℕ → List ℕ
 trimmed [] = []
 trimmed (c ∷ []) = cond (eqb c 13) [] (c ∷ [])
 trimmed (c ∷ d ∷ line) = c ∷ trimmed (d ∷ line)
-
--- begins with #
-abbrev pub Comment : List ℕ → Type 0
-Comment line = getD line 0 0 ≡ 35
 
 abbrev pub TOO-LONG : String
 TOO-LONG = "bad line: longer than 1024 bytes\n"
@@ -37,12 +33,24 @@ pub record Writes (Right : List ℕ → Type 0) (before : List ℕ) (at : ℕ) (
   pub right : Right text
   pub wrote : Wrote text before at after next
 
+-- A line that is blank or begins with # is passed over, one of more than 1024 bytes is told so, and any other is a request.
+pub data Kind : Type 0 where
+  passed : Kind
+  too-long : Kind
+  request : Kind
+
+abbrev pub kindOf : List ℕ → Kind
+kindOf [] = passed
+kindOf (c ∷ line) = cond (eqb c 35) passed (cond (ltb 1024 (length (c ∷ line))) too-long request)
+
+abbrev pub TextOf : Kind → List ℕ → List ℕ → Type 0
+TextOf passed line text = text ≡ []
+TextOf too-long line text = text ≡ bytes TOO-LONG
+TextOf request line text = RequestLine (words line) text
+
 -- what is written for a line, which is given without its newline
-pub data Line (line : List ℕ) : List ℕ → Type 0 where
-  blank : trimmed line ≡ [] → Line line []
-  comment : Comment (trimmed line) → Line line []
-  too-long : ¬ Comment (trimmed line) → 1024 < length (trimmed line) → Line line (bytes TOO-LONG)
-  request : (text : List ℕ) → 0 < length (trimmed line) → ¬ Comment (trimmed line) → length (trimmed line) ≤ 1024 → RequestLine (words (trimmed line)) text → Line line text
+pub record Line (line text : List ℕ) : Type 0 where
+  pub text-is : TextOf (kindOf (trimmed line)) (trimmed line) text
 
 -- and where: a buffer without room for the longest answer is refused and left as it was
 pub data LineAnswered (line before : List ℕ) (at : ℕ) (after : List ℕ) : Answered → Type 0 where

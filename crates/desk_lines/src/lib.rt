@@ -5,11 +5,10 @@ use text::put_byte;
 use text::put_bytes;
 ghost use Prim.Native.Nat.{_+_, _≤_};
 ghost use mathlib.Core.Path.{_≡_};
-ghost use mathlib.Core.List.{_∷_, [], _++_};
 ghost use lib.ListN.{length, take};
 ghost use Rattle.text.specs.Bytes.{bytes};
 ghost use Rattle.words.specs.Words.{words};
-ghost use Rattle.desk_answers.specs.Reply.{ROOM};
+ghost use Rattle.forms.specs.Says.{ROOM};
 ghost use Rattle.desk_lines.specs.Line.{trimmed, RequestLine, Writes, LineAnswered};
 
 // Where the answer ends, or that the buffer has not room for the longest answer and nothing was written.

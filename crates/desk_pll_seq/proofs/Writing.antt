@@ -1,7 +1,7 @@
 -- How an access, a row of them and an end come to their text.
-use mathlib.Core.Path.{_≡_, refl, sym, ap, _∙_, subst, subst⁻¹}
+use mathlib.Core.Path.{_≡_, refl, sym, ap, _∙_, subst}
 use mathlib.Core.List.{List, [], _∷_, _++_, append-assoc, append-nil, map}
-use Prim.Native.Nat.{ℕ, zero, suc, _+_, _*_, _-_, _≤_, _<_}
+use Prim.Native.Nat.{ℕ, zero, suc, _+_, _*_, _≤_, _<_}
 use native.Mathlib.Numerals.{add-one}
 use native.Mathlib.Omega.{arith}
 use lib.Dec.{lit≤}
@@ -15,7 +15,7 @@ use Rattle.forms.specs.Says.{Said}
 use Rattle.forms.proofs.Saying.{within}
 use Rattle.pll_rows.specs.Sequence.{Access}
 use Rattle.pll_seq.specs.Record.{Rows, over, written}
-use Rattle.desk_pll_seq.specs.Printed.{accessForm, access, accesses, endForm, ended, recordAt, firsts}
+use Rattle.desk_pll_seq.specs.Printed.{access, accesses, endForm, ended, recordAt, firsts}
 
 -- ---- an access
 module _ (number value : ℕ) {before : List ℕ} {at : ℕ} {after : List ℕ} {next : ℕ} where

@@ -38,9 +38,13 @@ fn plan_of(n: &[u32]) -> Plan
 fn host_words(n: &[u32]) -> &[u32]
     ensures { λ r. ⌜ now r ≡ hostWords (now (n .entry)) ⌝ }
 {
-    let start = if n.len() < 7 { n.len() } else { 7 };
-    let end = if n.len() < 167 { n.len() } else { 167 };
-    &n[start..end]
+    if n.len() < 7 {
+        return &n[n.len()..];
+    }
+    if n.len() < 167 {
+        return &n[7..];
+    }
+    &n[7..167]
 }
 
 // A read a word and six writes at most: the rows have room for the run.

@@ -4,16 +4,17 @@ use mathlib.Core.Path.{_≡_}
 use mathlib.Core.List.{List, [], _∷_}
 use lib.ListN.{drop}
 use Rattle.text.specs.Bytes.{bytes}
-use Rattle.shapes.specs.Shape.{ROOM, Parsed, End, all, bad, parse}
+use Rattle.shapes.specs.Shape.{MOST, Parsed, all, bad, parse}
 use Rattle.shapes.specs.Named.{namedOf}
 use Rattle.shapes.specs.declared.fields.Fault.{Fault}
 use Rattle.shapes.specs.declared.Named.the-variants as Named
-use Rattle.desk_requests.specs.Row.{Request, complaint}
+use Rattle.desk_faults.specs.Complaint.{complaint}
+use Rattle.desk_requests.specs.Row.{Request}
 use Rattle.desk_requests.specs.Table.{row, names}
 
 -- a request's words after its name, read by its shape
 abbrev pub read : Request → List (List ℕ) → Parsed
-read r rest = parse (bytes (r .shape)) ROOM 2 rest
+read r rest = parse (bytes (r .shape)) MOST 2 rest
 
 pub data Asked (r : Request) (rest : List (List ℕ)) : List ℕ → Type 0 where
   told : {text : List ℕ} → read r rest .end ≡ all → r .says (read r rest .numbers) text → Asked r rest text

@@ -5,8 +5,6 @@ use mathlib.Core.List.{List, [], _∷_, _++_}
 use Rattle.refusals.specs.Told.{Told, answered, refused}
 use Rattle.text.specs.Bytes.{bytes}
 use Rattle.forms.specs.Form.{printed}
-use Rattle.shapes.specs.declared.fields.Fault.{Fault}
-use Rattle.shapes.specs.declared.fields.Fault.the-variants as Fault
 use Rattle.desk_calls.specs.Calls.{Call}
 
 -- `says` is about the numbers that were read by the shape, and the text of the answer
@@ -29,16 +27,3 @@ pub data Spoken (form : List ℕ) (Tells : Told (List ℕ) → Type 0) : List �
 -- a row for a call. The form's words are those that the call tells; `_` in a form is a space.
 abbrev pub call : String → String → String → Call → String → Request
 call name shape form tells help = record { name = name; shape = shape; says = λ n. Spoken (bytes form) (tells n); help = help }
-
--- what is wrong with which word of a line
-abbrev pub wrong : Fault → String
-wrong Fault.Missing = "bad line: word # is missing"
-wrong Fault.Empty = "bad line: word # is empty"
-wrong Fault.NotANumber = "bad line: word # is not a number"
-wrong Fault.TooLarge = "bad line: word # is too large"
-wrong Fault.NotEightDigits = "bad line: word # is not 8 hex digits"
-wrong Fault.OneTooMany = "bad line: word # is one too many"
-wrong Fault.NoSuchName = "bad line: word # is not a name known here"
-
-unfoldable pub complaint : ℕ → Fault → List ℕ
-complaint word fault = printed (bytes (wrong fault)) (word ∷ [])

@@ -1,11 +1,7 @@
 // One request, answered. The table of requests stands in specs/Table.antt, and the code follows it by place: a name's place is found, the
 // words are read by the shape at that place, and what is told of their numbers is printed by the form there.
-mod column;
-mod complain;
-
-use column::column;
-use complain::put_fault;
 use desk_calls::call;
+use desk_faults::put_fault;
 use desk_pll_seq::put_pll_seq;
 use desk_uart_list::put_uart_list;
 use forms::put_told;
@@ -16,6 +12,7 @@ use shapes::read_name;
 use shapes::read_shape;
 use text::put_bytes;
 use text::room;
+use words::nth_word;
 ghost use Prim.Native.Nat.{_+_, _≤_, _<_};
 ghost use lib.ListN.{length};
 ghost use Rattle.words.specs.Words.{words, wordsFrom};
@@ -46,7 +43,7 @@ fn answer_named(place: usize, line: &[u8], from: usize, out: &mut [u8], at: usiz
 {
     let mut numbers = [0u32; 160];
     let shapes = b"nnn nnn ns nbb nn nn n nn nfn nnn nw fnw nn pfbbbhhw ";
-    match read_shape(column(shapes, place), line, from, &mut numbers) {
+    match read_shape(nth_word(shapes, place), line, from, &mut numbers) {
         Read::Bad(word, fault) => put_fault(word, fault, out, at),
         Read::Numbers(count) => answer_numbers(place, &numbers[..count], out, at),
     }
@@ -76,5 +73,5 @@ fn answer_call(place: usize, n: &[u32], out: &mut [u8], at: usize) -> usize
     let mut words = [0u32; 26];
     let told = call(place, n, &mut words);
     let forms = b"#_# # #_# # ?_# #_#_#_# #_#_#_# #_#_$ #_#_#_# #_# ok_#_#_#_#_#_#_#_#_#_#_#_#_#_#_#_#_#_#_#_#_~_#_#_#_# #";
-    put_told(column(forms, place), told, &words, out, at)
+    put_told(nth_word(forms, place), told, &words, out, at)
 }

@@ -1,9 +1,7 @@
 -- How the list is written: what stands there before the turn at k, and how the count and the entries come to one answer.
 use mathlib.Core.Path.{_≡_, refl, sym, ap, _∙_, subst, subst⁻¹}
-use mathlib.Core.Logic.{_⊎_, inl, inr}
 use mathlib.Core.List.{List, [], _∷_, _++_, append-assoc, append-nil}
 use Prim.Native.Nat.{ℕ, _+_, _*_, _≤_, _<_}
-use native.Mathlib.Nat.{le-refl}
 use native.Mathlib.Omega.{arith}
 use lib.Dec.{lit≤}
 use lib.Ieee.{Float}
@@ -19,7 +17,7 @@ use Rattle.uart_candidate.specs.Candidate.{Viable, Outcome}
 use Rattle.uart_candidate.specs.declared.BaudDivisors.{BaudDivisors}
 use Rattle.uart_candidate.specs.declared.Tried.{Tried}
 use Rattle.uart_candidate.specs.declared.Tried.the-variants.{Pair, Skipped}
-use Rattle.uart_list.specs.Listing.{Counts, Viables}
+use Rattle.uart_list.specs.Listing.{Counts}
 use Rattle.uart_list.proofs.Laws.{From, put, few as few-pairs, before as grown, beyond, whole, all, only, one-count}
 use Rattle.forms.specs.Form.{printed}
 use Rattle.forms.specs.Says.{Said, Says}

@@ -10,7 +10,7 @@ ghost use Prim.Native.Nat.{_+_, _≤_};
 ghost use lib.ListN.{length};
 ghost use Rattle.text.specs.Put.{InRoom};
 ghost use Rattle.forms.specs.Says.{ROOM, Said, Says};
-ghost use Rattle.desk_uart_list.specs.List.{entry, entries, Prints, Listed};
+ghost use Rattle.desk_uart_list.specs.List.{entry, Prints, Listed};
 
 pub fn put_uart_list(reference: u32, baud: u32, out: &mut [u8], at: usize) -> usize
     ensures { λ r. ⌜ InRoom ROOM (Says (Listed reference baud)) (now (out .entry)) at (now (out .exit)) r ⌝ }

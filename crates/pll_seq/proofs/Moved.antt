@@ -6,9 +6,9 @@ use mathlib.Core.Path.{_≡_, refl, sym, ap, subst, _∙_}
 use lib.ListN.{length, length-set}
 use Rattle.pll_rows.specs.Sequence.{Access, Ending, Log, after, ends}
 use Rattle.pll_seq.specs.declared.Ran.{Ran}
-use Rattle.pll_seq.specs.declared.parts.Spot.{Spot}
-use Rattle.pll_seq.specs.declared.parts.Went.{Went}
-use Rattle.pll_seq.specs.declared.parts.Went.the-variants.{On, Over}
+use Rattle.pll_seq.specs.declared.Spot.{Spot}
+use Rattle.pll_seq.specs.declared.Went.{Went}
+use Rattle.pll_seq.specs.declared.Went.the-variants.{On, Over}
 use Rattle.pll_seq.specs.Record.{Rows, Room, written, ending}
 use Rattle.pll_seq.specs.Moves.{stored, Moves, here, on, Enough, Goes, goes, is-over}
 use Rattle.pll_seq.proofs.Front.{stored-all, in-front}

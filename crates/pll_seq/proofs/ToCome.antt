@@ -22,7 +22,7 @@ use Rattle.pll_rows.specs.declared.Due.the-variants.{Read, Write, Poll, End}
 use Rattle.pll_rows.specs.declared.PllPlan.{PllPlan}
 use Rattle.pll_rows.specs.Due.{IsDue}
 use Rattle.pll_rows.specs.Sequence.{Row, read, write, poll, Log, locked, timed-out, starved, a-read, a-write, after, ends, reads, seen, log, sequence}
-use Rattle.pll_seq.specs.Moves.{to-poll, to-close}
+use Rattle.pll_seq.specs.Moves.{to-come, to-poll, to-close}
 
 -- ---- the first of some rows is due
 
@@ -69,7 +69,8 @@ module _ (plan : PllPlan) (words : List ℕ) where
 
   -- ---- the rows before the polls
 
-  pub at-the-polls : (at n w : ℕ) (l : List ℕ) → at ≡ 9 → log (drop at (sequence plan)) n w l ≡ to-poll plan n l
+  pub at-the-polls : (at n w : ℕ) (l : List ℕ) → at ≡ 9 → to-come plan at n w l ≡ to-poll plan n l
+  unfolding to-come
   at-the-polls at n w l e = ap (λ (at : ℕ). log (drop at (sequence plan)) n w l) e
 
   module _ (at n w used : ℕ) (d : Due) (due : IsDue (drop at (sequence plan)) w d) where
@@ -79,19 +80,22 @@ module _ (plan : PllPlan) (words : List ℕ) where
     due-is : {e : Due} → d ≡ e → log (drop at (sequence plan)) n w (drop used words) ≡ by n w (drop used words) (drop at (sequence plan)) e
     due-is e = by-due n w (drop used words) (drop at (sequence plan)) d due ∙ ap (by n w (drop used words) (drop at (sequence plan))) e
 
-    pub starves : {i : ℕ} → d ≡ Read i → length words ≤ used → log (drop at (sequence plan)) n w (drop used words) ≡ ends starved
+    pub starves : {i : ℕ} → d ≡ Read i → length words ≤ used → to-come plan at n w (drop used words) ≡ ends starved
+    unfolding to-come
     starves {i} e l = due-is e ∙ ap (reads i (log (drop 1 (drop at (sequence plan))) n)) (drop-of-length-le words l)
 
     pub does-read : {i : ℕ} → d ≡ Read i → used < length words →
-        log (drop at (sequence plan)) n w (drop used words)
-        ≡ after (a-read i (getD words used 0)) (log (drop (at + 1) (sequence plan)) n (getD words used 0) (drop (used + 1) words))
+        to-come plan at n w (drop used words)
+        ≡ after (a-read i (getD words used 0)) (to-come plan (at + 1) n (getD words used 0) (drop (used + 1) words))
+    unfolding to-come
     does-read {i} e l =
         due-is e
         ∙ ap (reads i (log (drop 1 (drop at (sequence plan))) n)) (next-word used l)
         ∙ ap (λ (rows : List Row). after (a-read i (getD words used 0)) (log rows n (getD words used 0) (drop (used + 1) words))) (drop-drop 1 at (sequence plan))
 
     pub does-write : {i v : ℕ} → d ≡ Write i v →
-        log (drop at (sequence plan)) n w (drop used words) ≡ after (a-write i v) (log (drop (at + 1) (sequence plan)) n v (drop used words))
+        to-come plan at n w (drop used words) ≡ after (a-write i v) (to-come plan (at + 1) n v (drop used words))
+    unfolding to-come
     does-write {i} {v} e =
         due-is e ∙ ap (λ (rows : List Row). after (a-write i v) (log rows n v (drop used words))) (drop-drop 1 at (sequence plan))
 
@@ -102,12 +106,14 @@ module _ (plan : PllPlan) (words : List ℕ) where
 
   -- there the polls that are left are of no account
   closing : (n w : ℕ) (l : List ℕ) → log (drop 10 (sequence plan)) n w l ≡ to-close plan l
+  unfolding to-come
   closing n w [] = refl
   closing n w (x ∷ l) = refl
 
   module _ (used : ℕ) where
     pub shows-lock : (n : ℕ) → 0 < n → used < length words → seen (getD words used 0) (pll-lock (plan .pll)) ≡ true →
         to-poll plan n (drop used words) ≡ after (a-read PLL-STATUS (getD words used 0)) (to-close plan (drop (used + 1) words))
+    unfolding to-come
     shows-lock zero h l e = absurd (omega arith)
     shows-lock (suc n) h l e =
         ap (to-poll plan (suc n)) (next-word used l)
@@ -115,6 +121,7 @@ module _ (plan : PllPlan) (words : List ℕ) where
 
     pub shows-none : (n : ℕ) → 0 < n → used < length words → seen (getD words used 0) (pll-lock (plan .pll)) ≡ false →
         to-poll plan n (drop used words) ≡ after (a-read PLL-STATUS (getD words used 0)) (to-poll plan (n - 1) (drop (used + 1) words))
+    unfolding to-come
     shows-none zero h l e = absurd (omega arith)
     shows-none (suc n) h l e = ap (to-poll plan (suc n)) (next-word used l) ∙ rw (e, sub-one) refl
 
@@ -122,22 +129,27 @@ module _ (plan : PllPlan) (words : List ℕ) where
     pub some-poll : (n : ℕ) → 0 < n → used < length words →
         to-poll plan n (drop used words)
         ≡ after (a-read PLL-STATUS (getD words used 0)) (rest-of (to-poll plan n (drop used words)))
+    unfolding to-come
     some-poll zero h l = absurd (omega arith)
     some-poll (suc n) h l = rw (next-word used l)
 
     pub no-word : (n : ℕ) → 0 < n → length words ≤ used → to-poll plan n (drop used words) ≡ ends starved
+    unfolding to-come
     no-word zero h l = absurd (omega arith)
     no-word (suc n) h l = ap (to-poll plan (suc n)) (drop-of-length-le words l)
 
     pub no-poll-left : (n : ℕ) → n ≤ 0 → to-poll plan n (drop used words) ≡ ends timed-out
+    unfolding to-come
     no-poll-left zero h = refl
     no-poll-left (suc n) h = absurd (omega arith)
 
     pub last-two : (i v : ℕ) → i ≡ pll-ctrl (plan .pll) → v ≡ set-field (getD words used 0) BYPASS-FORCE 0 → used < length words →
         to-close plan (drop used words) ≡ after (a-read i (getD words used 0)) (after (a-write i v) (ends locked))
+    unfolding to-come
     last-two i v number value l =
         ap (to-close plan) (next-word used l)
         ∙ ap₂ (λ (j u : ℕ). after (a-read j (getD words used 0)) (after (a-write j u) (ends locked))) (sym number) (sym value)
 
     pub no-last-word : length words ≤ used → to-close plan (drop used words) ≡ ends starved
+    unfolding to-come
     no-last-word l = ap (to-close plan) (drop-of-length-le words l)

@@ -6,18 +6,25 @@ use lib.ListN.{length, drop, set}
 use Rattle.pll_rows.specs.declared.PllPlan.{PllPlan}
 use Rattle.pll_rows.specs.Sequence.{Access, Log, after, ends, log, sequence}
 use Rattle.pll_seq.specs.declared.Ran.{Ran}
-use Rattle.pll_seq.specs.declared.parts.Spot.{Spot}
-use Rattle.pll_seq.specs.declared.parts.Went.{Went}
-use Rattle.pll_seq.specs.declared.parts.Went.the-variants.{On, Over}
+use Rattle.pll_seq.specs.declared.Spot.{Spot}
+use Rattle.pll_seq.specs.declared.Went.{Went}
+use Rattle.pll_seq.specs.declared.Went.the-variants.{On, Over}
 use Rattle.pll_seq.specs.Record.{Rows, rows, Room, ending}
+
+-- what is to come where so many rows are done, n polls are left, and w is the word last read or written
+unfoldable pub to-come : PllPlan → ℕ → ℕ → ℕ → List ℕ → Log
+to-come plan at n w words = log (drop at (sequence plan)) n w words
+
+abbrev pub whole : PllPlan → ℕ → List ℕ → Log
+whole plan limit words = to-come plan 0 limit 0 words
 
 -- from the polls on, with n of them left
 abbrev pub to-poll : PllPlan → ℕ → List ℕ → Log
-to-poll plan n words = log (drop 9 (sequence plan)) n 0 words
+to-poll plan n words = to-come plan 9 n 0 words
 
 -- from the lock on
 abbrev pub to-close : PllPlan → List ℕ → Log
-to-close plan words = log (drop 10 (sequence plan)) 0 0 words
+to-close plan words = to-come plan 10 0 0 words
 
 -- the rows with an access as record n
 abbrev pub stored : ℕ → Access → Rows → Rows

@@ -5,7 +5,7 @@ use Prim.Native.Nat.{ℕ, _≤_, _<_}
 use native.Mathlib.Omega.{arith}
 use borrow.Author.Tests.{lt-ltb, le-ltb, ne-eqb}
 use lib.ListN.{length}
-use Rattle.words.specs.Words.{words, placeOf}
+use Rattle.words.specs.Words.{placeOf}
 use Rattle.words.specs.declared.read.Number.{Number}
 use Rattle.words.specs.declared.read.Number.the-variants as Number
 use Rattle.words.specs.declared.split.Placed.{Placed}

@@ -1,5 +1,5 @@
 -- What is parsed fits the row, each number is at most the largest of its kind, and what the row and the answer tell of it.
-use mathlib.Core.Path.{_≡_, refl, sym, ap, _∙_}
+use mathlib.Core.Path.{_≡_, refl, ap, _∙_}
 use mathlib.Core.Bool.{Bool, true, false, cond}
 use mathlib.Core.List.{List, [], _∷_, _++_}
 use Prim.Native.Nat.{ℕ, zero, suc, _+_, _^_, _≤_, _<_, zero-le, suc-le-suc}
@@ -21,7 +21,7 @@ use Rattle.words.proofs.Choosing.{chosen, never}
 use Rattle.words.proofs.Reading.{hex-below}
 use Rattle.words.proofs.Splitting.{place-below}
 use Rattle.shapes.specs.Field.{upTo, eightDigits, known, name, most, fieldOf}
-use Rattle.shapes.specs.Shape.{ROOM, End, all, bad, Parsed, then, parse, told, Reads}
+use Rattle.shapes.specs.Shape.{MOST, End, all, bad, Parsed, then, parse, readOf, Reads}
 use Rattle.shapes.specs.declared.fields.Fault.{Fault}
 use Rattle.shapes.specs.declared.fields.FieldRead.{FieldRead}
 use Rattle.shapes.specs.declared.fields.FieldRead.the-variants as FieldRead
@@ -111,22 +111,22 @@ pub numbers-below : (shape : List ℕ) (room k : ℕ) (words : List (List ℕ)) 
 numbers-below shape room k words i = omega (arith, numbers-most shape room k words i, largest-below (kindAt i shape))
 
 -- what the answer tells
-all-told : {n : ℕ} (m : ℕ) (e : End) → Read.Numbers n ≡ told m e → (e ≡ all) × (n ≡ m)
-all-told m all h = (refl, cc)
-all-told m (bad k f) h = never (cc)
+when-all : {n : ℕ} (m : ℕ) (e : End) → Read.Numbers n ≡ readOf m e → (e ≡ all) × (n ≡ m)
+when-all m all h = (refl, cc)
+when-all m (bad k f) h = never (cc)
 
-bad-told : {k : ℕ} (m : ℕ) {f : Fault} (e : End) → Read.Bad k f ≡ told m e → e ≡ bad k f
-bad-told m all h = never (cc)
-bad-told m (bad j g) h = cc
+when-bad : {k : ℕ} (m : ℕ) {f : Fault} (e : End) → Read.Bad k f ≡ readOf m e → e ≡ bad k f
+when-bad m all h = never (cc)
+when-bad m (bad j g) h = cc
 
 module _ {p : Parsed} {before after : List ℕ} where
   pub read-all : {n : ℕ} → Reads p before after (Read.Numbers n) → (p .end ≡ all) × (n ≡ length (p .numbers)) × (take n after ≡ p .numbers)
   read-all {n} r =
-      let t = all-told (length (p .numbers)) (p .end) (r .answer) in
+      let t = when-all (length (p .numbers)) (p .end) (r .answer) in
       (t .0, t .1, ap (take n) (r .row) ∙ ap (λ (m : ℕ). take m (p .numbers ++ drop (length (p .numbers)) before)) (t .1) ∙ take-append-seam (p .numbers) (drop (length (p .numbers)) before))
 
   pub read-bad : {k : ℕ} {f : Fault} → Reads p before after (Read.Bad k f) → p .end ≡ bad k f
-  read-bad r = bad-told (length (p .numbers)) (p .end) (r .answer)
+  read-bad r = when-bad (length (p .numbers)) (p .end) (r .answer)
 
 -- a row that was all zeros holds the numbers, and zeros behind them
 zeros : (n k i : ℕ) → _≡_ {A = ℕ} (getD (drop k (replicate n 0)) i 0) 0
@@ -141,5 +141,5 @@ padded [] zs z i = z i
 padded (v ∷ vs) zs z zero = refl
 padded (v ∷ vs) zs z (suc i) = padded vs zs z i
 
-pub row-at : {p : Parsed} {after : List ℕ} {r : Read} → Reads p (replicate ROOM 0) after r → (i : ℕ) → getD after i 0 ≡ getD (p .numbers) i 0
-row-at {p} r i = ap (λ (l : List ℕ). getD l i 0) (r .row) ∙ padded (p .numbers) (drop (length (p .numbers)) (replicate ROOM 0)) (zeros ROOM (length (p .numbers))) i
+pub row-at : {p : Parsed} {after : List ℕ} {r : Read} → Reads p (replicate MOST 0) after r → (i : ℕ) → getD after i 0 ≡ getD (p .numbers) i 0
+row-at {p} r i = ap (λ (l : List ℕ). getD l i 0) (r .row) ∙ padded (p .numbers) (drop (length (p .numbers)) (replicate MOST 0)) (zeros MOST (length (p .numbers))) i

@@ -10,7 +10,7 @@ use lib.Dec.{eqb}
 use lib.ListN.{length, getD, take, drop, set, length-set, drop-of-length-le, take-append-drop}
 use lib.Seq.{drop-cons, drop-drop, take-suc-set, drop-set-lt, length-take-le}
 use Rattle.shapes.specs.Field.{fieldOf}
-use Rattle.shapes.specs.Shape.{ROOM, End, all, bad, Parsed, stop, then, parse, told, Reads}
+use Rattle.shapes.specs.Shape.{MOST, End, all, bad, Parsed, stop, then, parse, readOf, Reads}
 use Rattle.shapes.specs.declared.fields.Fault.{Fault}
 use Rattle.shapes.specs.declared.fields.Fault.the-variants as Fault
 use Rattle.shapes.specs.declared.fields.FieldRead.the-variants as FieldRead
@@ -46,49 +46,49 @@ front-last vs k v p = ap (λ (l : List ℕ). record { numbers = l; end = p .end 
 
 -- after i numbers: they stand in the row's front, and with what is parsed of the words that are left they are what is parsed of all
 pub record ReadTo (shape : List ℕ) (words : List (List ℕ)) (before numbers : List ℕ) (left : List (List ℕ)) (kind i : ℕ) : Type 0 where
-  pub bound : i ≤ ROOM
-  pub as-long : length numbers ≡ ROOM
+  pub bound : i ≤ MOST
+  pub as-long : length numbers ≡ MOST
   pub still : drop i numbers ≡ drop i before
-  pub rest : front (take i numbers) (parse (drop kind shape) (ROOM - i) (i + 2) left) ≡ parse shape ROOM 2 words
+  pub rest : front (take i numbers) (parse (drop kind shape) (MOST - i) (i + 2) left) ≡ parse shape MOST 2 words
 
-pub begin : (shape : List ℕ) (words : List (List ℕ)) (before : List ℕ) → length before ≡ ROOM → ReadTo shape words before before words 0 0
+pub begin : (shape : List ℕ) (words : List (List ℕ)) (before : List ℕ) → length before ≡ MOST → ReadTo shape words before before words 0 0
 begin shape words before h = record { bound = omega arith; as-long = h; still = refl; rest = refl }
 
 module _ {shape : List ℕ} {words : List (List ℕ)} {before numbers : List ℕ} {left : List (List ℕ)} {kind i : ℕ} (r : ReadTo shape words before numbers left kind i) where
-  finish : (e : End) → parse (drop kind shape) (ROOM - i) (i + 2) left ≡ stop e → Reads (parse shape ROOM 2 words) before numbers (told i e)
-  finish e q = subst (λ (p : Parsed). Reads p before numbers (told i e)) (ap (front (take i numbers)) (sym q) ∙ r .rest) these
+  finish : (e : End) → parse (drop kind shape) (MOST - i) (i + 2) left ≡ stop e → Reads (parse shape MOST 2 words) before numbers (readOf i e)
+  finish e q = subst (λ (p : Parsed). Reads p before numbers (readOf i e)) (ap (front (take i numbers)) (sym q) ∙ r .rest) these
     where
       size : length (take i numbers ++ []) ≡ i
       size = ap length (append-nil (take i numbers)) ∙ length-take-le i numbers (omega (arith, r .bound, r .as-long))
 
-      these : Reads (front (take i numbers) (stop e)) before numbers (told i e)
+      these : Reads (front (take i numbers) (stop e)) before numbers (readOf i e)
       these =
           record {
-            answer = ap (λ (n : ℕ). told n e) (sym size);
+            answer = ap (λ (n : ℕ). readOf n e) (sym size);
             row = rw (size, append-nil) (sym (take-append-drop i numbers) ∙ ap (λ (l : List ℕ). take i numbers ++ l) (r .still));
           }
 
-  pub past-shape : (word : List ℕ) × (more : List (List ℕ)) × (left ≡ word ∷ more) → length shape ≤ kind → Reads (parse shape ROOM 2 words) before numbers (Read.Bad (i + 2) Fault.OneTooMany)
-  past-shape w h = finish (bad (i + 2) Fault.OneTooMany) (rw (w .2) (parse-past shape kind (ROOM - i) (i + 2) (w .0) (w .1) h))
+  pub past-shape : (word : List ℕ) × (more : List (List ℕ)) × (left ≡ word ∷ more) → length shape ≤ kind → Reads (parse shape MOST 2 words) before numbers (Read.Bad (i + 2) Fault.OneTooMany)
+  past-shape w h = finish (bad (i + 2) Fault.OneTooMany) (rw (w .2) (parse-past shape kind (MOST - i) (i + 2) (w .0) (w .1) h))
 
-  pub no-room : (word : List ℕ) × (more : List (List ℕ)) × (left ≡ word ∷ more) → kind < length shape → ROOM ≤ i → Reads (parse shape ROOM 2 words) before numbers (Read.Bad (i + 2) Fault.OneTooMany)
-  no-room w h g = let none : ROOM - i ≡ 0 = omega arith in finish (bad (i + 2) Fault.OneTooMany) (rw (w .2, none) (parse-full shape kind (i + 2) (w .0) (w .1) h))
+  pub no-room : (word : List ℕ) × (more : List (List ℕ)) × (left ≡ word ∷ more) → kind < length shape → MOST ≤ i → Reads (parse shape MOST 2 words) before numbers (Read.Bad (i + 2) Fault.OneTooMany)
+  no-room w h g = let none : MOST - i ≡ 0 = omega arith in finish (bad (i + 2) Fault.OneTooMany) (rw (w .2, none) (parse-full shape kind (i + 2) (w .0) (w .1) h))
 
-  pub no-word : left ≡ [] → kind < length shape → (getD shape kind 0 ≡ 119 → ⊥) → Reads (parse shape ROOM 2 words) before numbers (Read.Bad (i + 2) Fault.Missing)
-  no-word e h n = finish (bad (i + 2) Fault.Missing) (rw e (parse-end shape kind (ROOM - i) (i + 2) h ∙ simp (ne-eqb (getD shape kind 0) 119 n)))
+  pub no-word : left ≡ [] → kind < length shape → (getD shape kind 0 ≡ 119 → ⊥) → Reads (parse shape MOST 2 words) before numbers (Read.Bad (i + 2) Fault.Missing)
+  no-word e h n = finish (bad (i + 2) Fault.Missing) (rw e (parse-end shape kind (MOST - i) (i + 2) h ∙ simp (ne-eqb (getD shape kind 0) 119 n)))
 
-  pub last-word : left ≡ [] → kind < length shape → getD shape kind 0 ≡ 119 → Reads (parse shape ROOM 2 words) before numbers (Read.Numbers i)
-  last-word e h w = finish all (rw e (parse-end shape kind (ROOM - i) (i + 2) h ∙ simp (eq-eqb (getD shape kind 0) 119 w)))
+  pub last-word : left ≡ [] → kind < length shape → getD shape kind 0 ≡ 119 → Reads (parse shape MOST 2 words) before numbers (Read.Numbers i)
+  last-word e h w = finish all (rw e (parse-end shape kind (MOST - i) (i + 2) h ∙ simp (eq-eqb (getD shape kind 0) 119 w)))
 
-  pub whole : left ≡ [] → length shape ≤ kind → Reads (parse shape ROOM 2 words) before numbers (Read.Numbers i)
-  whole e h = finish all (rw e (parse-done shape kind (ROOM - i) (i + 2) h))
+  pub whole : left ≡ [] → length shape ≤ kind → Reads (parse shape MOST 2 words) before numbers (Read.Numbers i)
+  whole e h = finish all (rw e (parse-done shape kind (MOST - i) (i + 2) h))
 
-  module _ (word : List ℕ) (more : List (List ℕ)) (e : left ≡ word ∷ more) (h : kind < length shape) (g : i < ROOM) where
-    this : parse (drop kind shape) (ROOM - i) (i + 2) left ≡ then (i + 2) (fieldOf (getD shape kind 0) word) (parse (cond (eqb (getD shape kind 0) 119) (drop kind shape) (drop (kind + 1) shape)) (ROOM - (i + 1)) (i + 1 + 2) more)
-    this = let room : ROOM - i ≡ suc (ROOM - (i + 1)) = omega arith in let next : i + 2 + 1 ≡ i + 1 + 2 = omega arith in
-        rw (e, room) (parse-word shape kind (ROOM - (i + 1)) (i + 2) word more h ∙ rw next)
+  module _ (word : List ℕ) (more : List (List ℕ)) (e : left ≡ word ∷ more) (h : kind < length shape) (g : i < MOST) where
+    this : parse (drop kind shape) (MOST - i) (i + 2) left ≡ then (i + 2) (fieldOf (getD shape kind 0) word) (parse (cond (eqb (getD shape kind 0) 119) (drop kind shape) (drop (kind + 1) shape)) (MOST - (i + 1)) (i + 1 + 2) more)
+    this = let room : MOST - i ≡ suc (MOST - (i + 1)) = omega arith in let next : i + 2 + 1 ≡ i + 1 + 2 = omega arith in
+        rw (e, room) (parse-word shape kind (MOST - (i + 1)) (i + 2) word more h ∙ rw next)
 
-    pub bad-word : (f : Fault) → fieldOf (getD shape kind 0) word ≡ FieldRead.Bad f → Reads (parse shape ROOM 2 words) before numbers (Read.Bad (i + 2) f)
+    pub bad-word : (f : Fault) → fieldOf (getD shape kind 0) word ≡ FieldRead.Bad f → Reads (parse shape MOST 2 words) before numbers (Read.Bad (i + 2) f)
     bad-word f b = finish (bad (i + 2) f) (this ∙ rw b)
 
     good-word : (v kind' : ℕ) → fieldOf (getD shape kind 0) word ≡ FieldRead.Value v → cond (eqb (getD shape kind 0) 119) (drop kind shape) (drop (kind + 1) shape) ≡ drop kind' shape → ReadTo shape words before (set numbers i v) more kind' (i + 1)
@@ -101,7 +101,7 @@ module _ {shape : List ℕ} {words : List (List ℕ)} {before numbers : List ℕ
         }
       where
         others : Parsed
-        others = parse (drop kind' shape) (ROOM - (i + 1)) (i + 1 + 2) more
+        others = parse (drop kind' shape) (MOST - (i + 1)) (i + 1 + 2) more
 
         taken : take (i + 1) (set numbers i v) ≡ take i numbers ++ (v ∷ [])
         taken = ap (λ (m : ℕ). take m (set numbers i v)) (add-one i) ∙ take-suc-set numbers i v (omega (arith, r .as-long))

@@ -15,8 +15,8 @@ use Rattle.shapes.specs.declared.Read.{Read}
 use Rattle.shapes.specs.declared.Read.the-variants as Read
 
 -- numbers that the row has room for: more than a line of 1024 bytes can have
-abbrev pub ROOM : ℕ
-ROOM = 160
+abbrev pub MOST : ℕ
+MOST = 160
 
 -- every word was read, or the word of this number has this fault
 pub data End : Type 0 where
@@ -44,11 +44,11 @@ parse (kind ∷ shape) room k [] = stop (cond (eqb kind 119) all (bad k Fault.Mi
 parse (kind ∷ shape) zero k (word ∷ words) = stop (bad k Fault.OneTooMany)
 parse (kind ∷ shape) (suc room) k (word ∷ words) = then k (fieldOf kind word) (parse (cond (eqb kind 119) (kind ∷ shape) shape) room (k + 1) words)
 
-abbrev pub told : ℕ → End → Read
-told n all = Read.Numbers n
-told n (bad k f) = Read.Bad k f
+abbrev pub readOf : ℕ → End → Read
+readOf n all = Read.Numbers n
+readOf n (bad k f) = Read.Bad k f
 
 -- the row holds the numbers in front and is otherwise as it was
 pub record Reads (p : Parsed) (before after : List ℕ) (r : Read) : Type 0 where
-  pub answer : r ≡ told (length (p .numbers)) (p .end)
+  pub answer : r ≡ readOf (length (p .numbers)) (p .end)
   pub row : after ≡ p .numbers ++ drop (length (p .numbers)) before

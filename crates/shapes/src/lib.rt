@@ -12,7 +12,7 @@ use words::word_end;
 ghost use mathlib.Core.Path.{_≡_};
 ghost use lib.ListN.{length};
 ghost use Rattle.words.specs.Words.{words, wordsFrom};
-ghost use Rattle.shapes.specs.Shape.{ROOM, parse, Reads};
+ghost use Rattle.shapes.specs.Shape.{MOST, parse, Reads};
 ghost use Rattle.shapes.specs.Named.{namedOf};
 
 // How many numbers there are, or a word's number and its fault.
@@ -23,14 +23,14 @@ pub enum Read {
 
 // Reads from the front of the row on. Where a word is at fault the numbers before it stand in the row.
 pub fn read_shape(shape: &[u8], line: &[u8], from: usize, numbers: &mut [u32; 160]) -> Read
-    ensures { λ r. ⌜ Reads (parse (now (shape .entry)) ROOM 2 (wordsFrom (now (line .entry)) from)) (now (numbers .entry)) (now (numbers .exit)) r ⌝ }
+    ensures { λ r. ⌜ Reads (parse (now (shape .entry)) MOST 2 (wordsFrom (now (line .entry)) from)) (now (numbers .entry)) (now (numbers .exit)) r ⌝ }
 {
     read_row(shape, line, from, numbers)
 }
 
 fn read_row(shape: &[u8], line: &[u8], from: usize, numbers: &mut [u32]) -> Read
-    requires { ⌜ length (now numbers) ≡ ROOM ⌝ }
-    ensures { λ r. ⌜ Reads (parse (now (shape .entry)) ROOM 2 (wordsFrom (now (line .entry)) from)) (now (numbers .entry)) (now (numbers .exit)) r ⌝ }
+    requires { ⌜ length (now numbers) ≡ MOST ⌝ }
+    ensures { λ r. ⌜ Reads (parse (now (shape .entry)) MOST 2 (wordsFrom (now (line .entry)) from)) (now (numbers .entry)) (now (numbers .exit)) r ⌝ }
 {
     let mut at = from;
     let mut kind = 0;

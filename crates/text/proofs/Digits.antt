@@ -1,5 +1,5 @@
 -- The fewest digits that hold a number are its decimal digits, and how many these are at most.
-use mathlib.Core.Path.{_≡_, refl, sym, ap, _∙_, subst, subst⁻¹}
+use mathlib.Core.Path.{_≡_, refl, ap, _∙_, subst}
 use mathlib.Core.List.{List, [], _∷_, _++_}
 use Prim.Native.Nat.{ℕ, zero, suc, _+_, _*_, _-_, _/_, _%_, _^_, _≤_, _<_}
 use native.Mathlib.Nat.{pow-suc, mod-eq-of-lt, le-antisymm, one-le-pow, pow-le-pow-right, div-lt-iff-lt-mul, le-div-iff-mul-le}

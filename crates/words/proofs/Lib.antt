@@ -1,3 +1,4 @@
 pub mod Choosing
 pub mod Reading
 pub mod Splitting
+pub mod Nth

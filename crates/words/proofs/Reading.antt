@@ -3,7 +3,7 @@
 use mathlib.Core.Path.{_≡_, refl, sym, ap, _∙_, subst}
 use mathlib.Core.Bool.{cond}
 use mathlib.Core.List.{List, [], _∷_}
-use Prim.Native.Nat.{ℕ, zero, suc, _+_, _*_, _-_, _^_, _≤_, _<_, min}
+use Prim.Native.Nat.{ℕ, suc, _+_, _*_, _-_, _^_, _≤_, _<_, min}
 use native.Mathlib.Nat.{pow-suc, lt-of-lt-of-le, pow-le-pow-right, add-zero}
 use native.Mathlib.Numerals.{add-one}
 use native.Mathlib.Decide.{decLt}
@@ -100,15 +100,6 @@ module _ {word : List ℕ} {i value : ℕ} (s : DecimalTo word i value) where
 
   pub decimal-large : length word ≤ i → 2 ^ 32 ≤ value → Number.TooLarge ≡ decimalOf word
   decimal-large h large = sym (simp (le-ltb value (2 ^ 32) large)) ∙ ap (decimalAfter value) (sym (drop-of-length-le word h)) ∙ s .rest
-
-decimal-after-below : (v : ℕ) (word : List ℕ) {u : ℕ} → decimalAfter v word ≡ Number.Value u → u < 2 ^ 32
-decimal-after-below v [] {u} e = chosen (ltb v (2 ^ 32)) (λ t q. let same : v ≡ u = cc in omega (arith, ltb-true v (2 ^ 32) t)) (λ f q. never (cc)) e
-decimal-after-below v (c ∷ word) e = chosen (ltb (digitOf c) 10) (λ t q. decimal-after-below (v * 10 + digitOf c) word q) (λ f q. never (cc)) e
-
-pub decimal-below : (word : List ℕ) {u : ℕ} → decimalOf word ≡ Number.Value u → u < 2 ^ 32
-unfolding decimalOf
-decimal-below [] e = never (cc)
-decimal-below (c ∷ word) e = decimal-after-below 0 (c ∷ word) e
 
 -- in hex
 pub no-hex : (word : List ℕ) → length word ≡ 0 → Hex.Empty ≡ hexOf word

@@ -7,6 +7,7 @@ pub use read::Number;
 pub use read::read_decimal;
 pub use read::read_hex;
 pub use split::Placed;
+pub use split::nth_word;
 pub use split::place;
 pub use split::until;
 pub use split::word_end;

@@ -2,7 +2,8 @@
 // it says that there is no word more.
 use check::same;
 ghost use mathlib.Core.Path.{_≡_};
-ghost use lib.ListN.{length};
+ghost use mathlib.Core.List.{[]};
+ghost use lib.ListN.{length, getD};
 ghost use Rattle.bounds.specs.Within.{Within};
 ghost use Rattle.words.specs.Words.{words, Until, Ends, placeOf};
 
@@ -48,4 +49,24 @@ pub fn place(word: &[u8], names: &[u8]) -> Placed
         from = end + 1;
     }
     Placed::Nowhere
+}
+
+// The word at a place, counted from 0: empty past the last.
+pub fn nth_word(line: &[u8], place: usize) -> &[u8]
+    ensures { λ r. ⌜ now r ≡ getD (words (now (line .entry))) place [] ⌝ }
+{
+    let mut from = 0;
+    let mut i = 0;
+    while i < place {
+        if line.len() < from {
+            return &line[line.len()..];
+        }
+        from = word_end(line, from) + 1;
+        i += 1;
+    }
+    if line.len() < from {
+        return &line[line.len()..];
+    }
+    let end = word_end(line, from);
+    &line[from..end]
 }

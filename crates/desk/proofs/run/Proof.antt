@@ -12,38 +12,8 @@ Inv-loop input₀ output₀ held₀ turns₀ input output held turns = (held .co
 abbrev μ-loop : tie.MeasureT-loop
 μ-loop input₀ output₀ held₀ turns₀ input output held turns = turns
 
-loop-holds : tie.Need-loop-holds Inv-loop μ-loop
-loop-holds c = (omega arith, refl, refl)
-
-sub-turns : tie.Need-sub-turns Inv-loop μ-loop
-sub-turns c = omega arith
-
-turn-requires : tie.Need-turn-requires Inv-loop μ-loop
-turn-requires c κs = omega arith
-
-same-length : tie.Need-same-length Inv-loop μ-loop
-same-length c = c .before .before .before .before .before .before .turn .kept .0 ∙ c .before .before .before .before .before .before .before .before .before .before .loop .inv .1
-
-same-length-2 : tie.Need-same-length-2 Inv-loop μ-loop
-same-length-2 c = c .before .before .before .before .before .before .turn .kept .1 .0 ∙ c .before .before .before .before .before .before .before .before .before .before .loop .inv .2
-
-returns : tie.Need-returns Inv-loop μ-loop
-returns c = tt
-
-loop-less : tie.Need-loop-less Inv-loop μ-loop
-loop-less c = omega arith
-
 loop-again : tie.Need-loop-again Inv-loop μ-loop
 loop-again c = (omega (arith, c .before .before .before .before .before .before .turn .ensures, c .before .before .before .before .before .before .turn .kept .0), c .before .before .before .before .before .before .turn .kept .0 ∙ c .before .before .before .before .before .before .before .before .before .before .loop .inv .1, c .before .before .before .before .before .before .turn .kept .1 .0 ∙ c .before .before .before .before .before .before .before .before .before .before .loop .inv .2)
-
-same-length-3 : tie.Need-same-length-3 Inv-loop μ-loop
-same-length-3 c = c .before .loop .inv .1
-
-same-length-4 : tie.Need-same-length-4 Inv-loop μ-loop
-same-length-4 c = c .before .loop .inv .2
-
-returns-2 : tie.Need-returns-2 Inv-loop μ-loop
-returns-2 c = tt
 
 pub run-spec : {M : Type 1} → statement M
 run-spec =
@@ -51,14 +21,14 @@ run-spec =
     (tie.spec
     Inv-loop
     μ-loop
-    loop-holds
-    sub-turns
-    turn-requires
-    same-length
-    same-length-2
-    returns
-    loop-less
+    (λ c. (omega arith, refl, refl))
+    (λ c. omega arith)
+    (λ c κs. omega arith)
+    (λ c. c .before .before .before .before .before .before .turn .kept .0 ∙ c .before .before .before .before .before .before .before .before .before .before .loop .inv .1)
+    (λ c. c .before .before .before .before .before .before .turn .kept .1 .0 ∙ c .before .before .before .before .before .before .before .before .before .before .loop .inv .2)
+    (λ c. tt)
+    (λ c. omega arith)
     loop-again
-    same-length-3
-    same-length-4
-    returns-2)
+    (λ c. c .before .loop .inv .1)
+    (λ c. c .before .loop .inv .2)
+    (λ c. tt))

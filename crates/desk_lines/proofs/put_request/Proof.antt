@@ -4,15 +4,6 @@ use Rattle.desk_lines.proofs.Lines.{with-newline}
 use Rattle.desk_lines.proofs.put_request.Statement.{statement}
 use Rattle.desk_lines.proofs.put_request.Tie as tie
 
-answer-request-requires : tie.Need-answer-request-requires
-answer-request-requires c κs = search needs
-
-put-byte-requires : tie.Need-put-byte-requires
-put-byte-requires c κs = search needs
-
-same-length : tie.Need-same-length
-same-length c = search needs
-
 returns : tie.Need-returns
 returns c = with-newline (c .before .before .before .before .before .before .before .before .before .before .pre) (c .before .before .before .before .before .before .answer-request .ensures .fits (c .before .before .before .before .before .before .before .before .before .before .pre)) (c .before .before .put-byte .ensures)
 
@@ -20,7 +11,7 @@ pub put-request-spec : {M : Type 1} → statement M
 put-request-spec =
     tie.close
     (tie.spec
-    answer-request-requires
-    put-byte-requires
-    same-length
+    (λ c κs. search needs)
+    (λ c κs. search needs)
+    (λ c. search needs)
     returns)

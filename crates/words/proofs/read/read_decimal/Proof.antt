@@ -1,5 +1,4 @@
 -- `words::read::read_decimal` meets its contract: `DecimalTo` is what is known after i digits.
-use borrow.Author.Needs.{needs}
 use Prim.Native.Nat.{_-_}
 use native.Mathlib.Omega.{arith}
 use lib.ListN.{length}

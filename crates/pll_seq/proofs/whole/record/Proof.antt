@@ -1,8 +1,8 @@
 -- `record` meets its contract: its parts follow one another. Assumes nothing.
 use borrow.Author.Needs.{needs}
 use Rattle.pll_seq.proofs.Moved.{enough, then, kept, went-on, went-over}
-use Rattle.pll_seq.proofs.record.Statement.{statement}
-use Rattle.pll_seq.proofs.record.Tie as tie
+use Rattle.pll_seq.proofs.whole.record.Statement.{statement}
+use Rattle.pll_seq.proofs.whole.record.Tie as tie
 
 record-polls-requires : tie.Need-record-polls-requires
 record-polls-requires c κs = enough (c .before .before .before .before .before .before .before .before .before .before .before .before .before .before .before .before .before .before .before .before .pre) (went-on (c .before .before .before .before .before .before .before .before .before .before .before .before .record-opening .ensures) (c .before .before .before .before .polling .given .1))

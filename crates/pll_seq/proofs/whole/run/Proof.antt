@@ -4,8 +4,8 @@ use denote.Ref.{now}
 use mathlib.Core.Logic.{inl, inr}
 use Rattle.pll_seq.specs.Record.{no-room}
 use Rattle.pll_seq.proofs.Few.{surely, answers}
-use Rattle.pll_seq.proofs.run.Statement.{statement}
-use Rattle.pll_seq.proofs.run.Tie as tie
+use Rattle.pll_seq.proofs.whole.run.Statement.{statement}
+use Rattle.pll_seq.proofs.whole.run.Tie as tie
 
 record-requires : tie.Need-record-requires
 record-requires c κs =

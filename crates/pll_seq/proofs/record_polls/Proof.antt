@@ -8,8 +8,8 @@ use Rattle.pll_seq.specs.Record.{rows}
 use Rattle.pll_seq.specs.Moves.{to-poll, goes, is-over}
 use Rattle.pll_seq.proofs.Moved.{Going, begins, for-next, goes-on, arrives, kept, went-on}
 use Rattle.pll_seq.proofs.ToCome.{some-poll, shows-lock, shows-none, no-word, no-poll-left}
-use Rattle.pll_seq.proofs.parts.record_polls.Statement.{statement}
-use Rattle.pll_seq.proofs.parts.record_polls.Tie as tie
+use Rattle.pll_seq.proofs.record_polls.Statement.{statement}
+use Rattle.pll_seq.proofs.record_polls.Tie as tie
 
 abbrev Inv-loop : tie.InvT-loop
 Inv-loop plan limit words kinds₀ numbers₀ values₀ status used₀ count₀ polls₀ kinds numbers values used count polls =

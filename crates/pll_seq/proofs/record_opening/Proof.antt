@@ -4,17 +4,16 @@ use denote.Ref.{now}
 use Prim.Native.Nat.{_-_, _≤_}
 use native.Mathlib.Omega.{arith}
 use lib.ListN.{drop}
-use Rattle.pll_rows.specs.Sequence.{log, sequence, accesses-of}
 use Rattle.pll_seq.specs.Record.{rows}
-use Rattle.pll_seq.specs.Moves.{goes, is-over}
+use Rattle.pll_seq.specs.Moves.{to-come, whole, goes, is-over}
 use Rattle.pll_seq.proofs.Moved.{Going, begins, for-next, goes-on, arrives}
 use Rattle.pll_seq.proofs.ToCome.{does-read, does-write, starves, not-past, at-the-polls}
-use Rattle.pll_seq.proofs.parts.record_opening.Statement.{statement}
-use Rattle.pll_seq.proofs.parts.record_opening.Tie as tie
+use Rattle.pll_seq.proofs.record_opening.Statement.{statement}
+use Rattle.pll_seq.proofs.record_opening.Tie as tie
 
 abbrev Inv-loop : tie.InvT-loop
 Inv-loop plan limit words kinds₀ numbers₀ values₀ word₀ used₀ count₀ kinds numbers values word used count =
-    (count ≤ 9) × Going (accesses-of plan limit words) 0 (rows kinds₀ numbers₀ values₀) (log (drop count (sequence plan)) limit word (drop used words)) count (rows kinds numbers values)
+    (count ≤ 9) × Going (whole plan limit words) 0 (rows kinds₀ numbers₀ values₀) (to-come plan count limit word (drop used words)) count (rows kinds numbers values)
 
 abbrev μ-loop : tie.MeasureT-loop
 μ-loop plan limit words kinds₀ numbers₀ values₀ word₀ used₀ count₀ kinds numbers values word used count = 9 - count

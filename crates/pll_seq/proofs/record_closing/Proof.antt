@@ -5,8 +5,8 @@ use mathlib.Core.Path.{refl}
 use native.Mathlib.Omega.{arith}
 use Rattle.pll_seq.proofs.Moved.{begins, for-next, goes-on, arrives}
 use Rattle.pll_seq.proofs.ToCome.{last-two, no-last-word}
-use Rattle.pll_seq.proofs.parts.record_closing.Statement.{statement}
-use Rattle.pll_seq.proofs.parts.record_closing.Tie as tie
+use Rattle.pll_seq.proofs.record_closing.Statement.{statement}
+use Rattle.pll_seq.proofs.record_closing.Tie as tie
 
 returns : tie.Need-returns
 returns c =
