@@ -1,5 +1,5 @@
--- A run of the sequence in print: `r 64 0001a008; w 64 ..; locked`, each access followed by `; ` and then the end. So a run that the
--- host starves at once is the word `starved` alone.
+-- A run of the sequence in print: `r 0 0001a008; w 0 ..; locked`, each access followed by `; ` and then the end; the numbers are those of
+-- the image's words. So a run that the host starves at once is the word `starved` alone.
 use Prim.Native.Nat.{ℕ, zero, suc}
 use mathlib.Core.List.{List, [], _∷_, _++_}
 use lib.ListN.{getD}

@@ -1,5 +1,5 @@
 // The viable pairs of a UART clock divisor and baud divider: how many there are, and the steps of listing them in lent records.
-// The call that lists them is the archive's, which lends the records on from C.
+// The call that writes them is the archive's `ogr_uart_list`: only through it can a program lend records.
 use uart_candidate::BaudDivisors;
 use uart_candidate::Tried;
 ghost use mathlib.Core.Path.{_≡_};
