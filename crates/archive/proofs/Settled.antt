@@ -29,6 +29,11 @@ use Rattle.c_gem.specs.Tells.{GemHanded}
 use Rattle.c_gem.proofs.Laws as c-gem
 use Rattle.c_clock_setup.specs.Tells.{CpuInitTells, DdrInitTells}
 use Rattle.c_clock_setup.proofs.Laws as c-clock-setup
+use Rattle.pll_seq.specs.Record.{Rows}
+use Rattle.c_pll_start.specs.declared.Plan.{Plan}
+use Rattle.c_pll_seq.specs.declared.Ran.{Ran}
+use Rattle.c_pll_seq.specs.Ran.{Runs}
+use Rattle.c_pll_seq.proofs.Unique as c-pll-seq
 
 pub two-stage : (reference target largest : ℕ) → Settled 2 (TwoStageTells reference target largest)
 two-stage reference target largest = settled (c-two-stage.one reference target largest)
@@ -77,3 +82,6 @@ cpu-init pll six divisor = settled (c-clock-setup.one-cpu pll six divisor)
 
 pub ddr-init : (reference div-3x div-2x : ℕ) → Settled 2 (DdrInitTells reference div-3x div-2x)
 ddr-init reference div-3x div-2x = settled (c-clock-setup.one-ddr reference div-3x div-2x)
+
+pub pll-seq : {plan : Plan} {reads : List ℕ} {before a b : Rows} {r q : Ran} → Runs plan reads before a r → Runs plan reads before b q → (a ≡ b) × (r ≡ q)
+pll-seq = c-pll-seq.unique

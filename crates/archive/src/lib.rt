@@ -1,5 +1,6 @@
 // Document 01's calls for programs in C and Rust: each hands on what its crate tells, and include/ogruspinu.h says it call by call.
 // Numbers pass as themselves, a row of words as a pointer and a length, a struct by value.
+mod pll;
 mod records;
 
 ghost use mathlib.Core.Path.{_≡_};

@@ -9,7 +9,6 @@ use borrow.Author.Tests.{ne-eqb, lt-ltb}
 use lib.Dec.{eqb}
 use lib.ListN.{length, length-append}
 use Rattle.words.proofs.Choosing.{never}
-use Rattle.desk_requests.specs.Answer.{Answer}
 use Rattle.desk_lines.specs.Line.{trimmed, Kind, passed, too-long, kindOf, TextOf, Line}
 use Rattle.desk_lines.proofs.Settled.{one-line}
 use Rattle.desk_blocks.specs.Session.{NoNewline, Session}
@@ -163,26 +162,25 @@ told b (Session.swallowed {input} {texts} l s n) = as-run (begin b) input l (10 
 nothing-begun : (m : Mark) (x : List ℕ) {t : List ℕ} → run m x ≡ within [] → Begun m x t → ⊥
 nothing-begun m x e r = let f = r .run-is in let none : r .piece ≡ [] = cc in omega (arith, r .long, ap length none)
 
-module _ (one-answer : (line : List (List ℕ)) (s t : List ℕ) → Answer line s → Answer line t → s ≡ t) where
-  one-texts : (ls : List (List ℕ)) (s t : List ℕ) → Texts ls s → Texts ls t → s ≡ t
-  one-texts [] s t e f = e ∙ sym f
-  one-texts (l ∷ ls) s t (a, b, x, r, e) (c, d, y, q, f) = e ∙ ap (λ (u : List ℕ). u ++ b) (one-line one-answer x y) ∙ ap (λ (v : List ℕ). c ++ v) (one-texts ls b d r q) ∙ sym f
+one-texts : (ls : List (List ℕ)) (s t : List ℕ) → Texts ls s → Texts ls t → s ≡ t
+one-texts [] s t e f = e ∙ sym f
+one-texts (l ∷ ls) s t (a, b, x, r, e) (c, d, y, q, f) = e ∙ ap (λ (u : List ℕ). u ++ b) (one-line x y) ∙ ap (λ (v : List ℕ). c ++ v) (one-texts ls b d r q) ∙ sym f
 
-  one-told : (m : Mark) (x s t : List ℕ) (c d : Bool) → Told m x s c → Told m x t d → (s ≡ t) × (c ≡ d)
-  one-told m x s t false false r q = (one-texts (lines m x) s t (r .1) (q .1), refl)
-  one-told m x s t false true r (inl q) = let e = r .0 in let f = q .0 in never (cc)
-  one-told m x s t false true r (inr q) = absurd (nothing-begun m x (r .0) q)
-  one-told m x s t true false (inl r) q = let e = r .0 in let f = q .0 in never (cc)
-  one-told m x s t true false (inr r) q = absurd (nothing-begun m x (q .0) r)
-  one-told m x s t true true (inl r) (inl q) = (one-texts (lines m x) s t (r .1) (q .1), refl)
-  one-told m x s t true true (inl r) (inr q) = let e = r .0 in let f = q .run-is in never (cc)
-  one-told m x s t true true (inr r) (inl q) = let e = r .run-is in let f = q .0 in never (cc)
-  one-told m x s t true true (inr r) (inr q) =
-      let e = r .run-is in
-      let f = q .run-is in
-      let same : r .piece ≡ q .piece = cc in
-      (r .is ∙ ap (λ (u : List ℕ). u ++ r .text) (one-texts (lines m x) (r .texts) (q .texts) (r .before) (q .before)) ∙ ap (λ (v : List ℕ). q .texts ++ v) (one-line one-answer (subst (λ (p : List ℕ). Line p (r .text)) same (r .line)) (q .line)) ∙ sym (q .is), refl)
+one-told : (m : Mark) (x s t : List ℕ) (c d : Bool) → Told m x s c → Told m x t d → (s ≡ t) × (c ≡ d)
+one-told m x s t false false r q = (one-texts (lines m x) s t (r .1) (q .1), refl)
+one-told m x s t false true r (inl q) = let e = r .0 in let f = q .0 in never (cc)
+one-told m x s t false true r (inr q) = absurd (nothing-begun m x (r .0) q)
+one-told m x s t true false (inl r) q = let e = r .0 in let f = q .0 in never (cc)
+one-told m x s t true false (inr r) q = absurd (nothing-begun m x (q .0) r)
+one-told m x s t true true (inl r) (inl q) = (one-texts (lines m x) s t (r .1) (q .1), refl)
+one-told m x s t true true (inl r) (inr q) = let e = r .0 in let f = q .run-is in never (cc)
+one-told m x s t true true (inr r) (inl q) = let e = r .run-is in let f = q .0 in never (cc)
+one-told m x s t true true (inr r) (inr q) =
+    let e = r .run-is in
+    let f = q .run-is in
+    let same : r .piece ≡ q .piece = cc in
+    (r .is ∙ ap (λ (u : List ℕ). u ++ r .text) (one-texts (lines m x) (r .texts) (q .texts) (r .before) (q .before)) ∙ ap (λ (v : List ℕ). q .texts ++ v) (one-line (subst (λ (p : List ℕ). Line p (r .text)) same (r .line)) (q .line)) ∙ sym (q .is), refl)
 
-  -- two sessions over the same input, from the same mark on, write the same and leave the same mark
-  pub one-session : (b : Bool) {c d : Bool} {x s t : List ℕ} → Session b x s c → Session b x t d → (s ≡ t) × (c ≡ d)
-  one-session b {c} {d} {x} {s} {t} p q = one-told (begin b) x s t c d (told b p) (told b q)
+-- two sessions over the same input, from the same mark on, write the same and leave the same mark
+pub one-session : (b : Bool) {c d : Bool} {x s t : List ℕ} → Session b x s c → Session b x t d → (s ≡ t) × (c ≡ d)
+one-session b {c} {d} {x} {s} {t} p q = one-told (begin b) x s t c d (told b p) (told b q)

@@ -1,2 +1,3 @@
 mod Calling
 mod GemOfImage
+pub mod Settled

@@ -55,7 +55,11 @@ pub fn call(place: usize, n: &[u32], out: &mut [u32]) -> u64
 fn from(n: &[u32], at: usize) -> &[u32]
     ensures { λ r. ⌜ now r ≡ drop at (now (n .entry)) ⌝ }
 {
-    if at < n.len() { &n[at..] } else { &n[n.len()..] }
+    if at < n.len() {
+        &n[at..]
+    } else {
+        &n[n.len()..]
+    }
 }
 
 // The frequency of a pair of divisors.

@@ -15,7 +15,8 @@ pub fn put_fault(word: u32, fault: Fault, out: &mut [u8], at: usize) -> usize
     if room(out.len(), at) < 100 {
         return out.len() + 1;
     }
-    let wrong = b"missing empty not_a_number too_large not_8_hex_digits one_too_many not_a_name_known_here";
+    let wrong =
+        b"missing empty not_a_number too_large not_8_hex_digits one_too_many not_a_name_known_here";
     let past = put_form(b"bad_line:_word_#_is_", &[word], out, at);
     put_form(nth_word(wrong, place(fault)), &[word], out, past)
 }

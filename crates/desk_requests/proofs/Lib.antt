@@ -1,3 +1,4 @@
 mod Asking
 mod Places
+pub mod Settled
 mod Speaking

@@ -25,7 +25,7 @@ asked =
     ∷ call "cpu-init" "nfn" "#_#_#_#" cpu-init "cpu-init PLL RATIO DIV gives 1X 2X 3X2X 6X4X"
     ∷ call "ddr-init" "nnn" "#_#" ddr-init "ddr-init REF DIV3X DIV2X gives 3X 2X"
     ∷ call "clocks" "nw" "ok_#_#_#_#_#_#_#_#_#_#_#_#_#_#_#_#_#_#_#_#_~_#_#_#_#" clocks
-      "clocks CRYSTAL W0 .. W49 gives ok and ARM_PLL IO_PLL DDR_PLL CPU_REF RATIO 1X 2X 3X2X 6X4X DDR_REF DDR3X DDR2X IO_REF SMC QSPI SDIO UART SPI CAN PCAP TRACE|emio FPGA0 FPGA1 FPGA2 FPGA3"
+    "clocks CRYSTAL W0 .. W49 gives ok and ARM_PLL IO_PLL DDR_PLL CPU_REF RATIO 1X 2X 3X2X 6X4X DDR_REF DDR3X DDR2X IO_REF SMC QSPI SDIO UART SPI CAN PCAP TRACE|emio FPGA0 FPGA1 FPGA2 FPGA3"
     ∷ call "gem" "fnw" "#" gem "gem 0|1 CRYSTAL W0 .. W49 gives HZ"
     ∷ record { name = "uart-list"; shape = "nn"; says = λ n. Listed (nth n 0) (nth n 1); help = "uart-list REF BAUD gives the count and CD:BDIV:ERROR for each pair" }
     ∷ record { name = "pll-seq"; shape = "pfbbbhhw"; says = λ n text. text ≡ runText (planOf n) (hostWords n); help = "pll-seq arm|ddr|io BYPASSED FDIV CP RES LOCK LIMIT R1 R2 .. gives the accesses and the end" }

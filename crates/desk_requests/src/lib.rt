@@ -72,6 +72,7 @@ fn answer_call(place: usize, n: &[u32], out: &mut [u8], at: usize) -> usize
 {
     let mut words = [0u32; 26];
     let told = call(place, n, &mut words);
-    let forms = b"#_# # #_# # ?_# #_#_#_# #_#_#_# #_#_$ #_#_#_# #_# ok_#_#_#_#_#_#_#_#_#_#_#_#_#_#_#_#_#_#_#_#_~_#_#_#_# #";
+    let forms =
+        b"#_# # #_# # ?_# #_#_#_# #_#_#_# #_#_$ #_#_#_# #_# ok_#_#_#_#_#_#_#_#_#_#_#_#_#_#_#_#_#_#_#_#_~_#_#_#_# #";
     put_told(nth_word(forms, place), told, &words, out, at)
 }
