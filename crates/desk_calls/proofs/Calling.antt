@@ -7,7 +7,7 @@ use lib.ListN.{length, take, drop, length-take, length-drop, List·getD-eq-defau
 use lib.Seq.{take-all}
 use Rattle.bounds.proofs.Bound.{kept}
 use Rattle.handing.specs.Handed.{Given, Handed}
-use Rattle.desk_calls.specs.Calls.{Call, calls, call-at, gem, Answers}
+use Rattle.desk_calls.specs.Calls.{Call, calls, call-at, nothing, nothing-said, Answers}
 
 pub at-place : {place : ℕ} (n : List ℕ) {before after : List ℕ} {r : ℕ} (k : ℕ) → 26 ≤ length before → place ≡ k → Given (call-at k n) before r after → Handed 26 (call-at place n) before r after
 at-place n {before} {after} {r} k h e g = kept h (subst⁻¹ (λ (p : ℕ). Given (call-at p n) before r after) e g)
@@ -20,9 +20,9 @@ one-number e (z, w) = rw (z, w, e) (Given.answer Answers.answers)
 pub above : (k : ℕ) {i : ℕ} → k ≤ i → (i ≡ k → ⊥) → suc k ≤ i
 above k h n = omega arith
 
-pub at-last : {place : ℕ} (n : List ℕ) {before after : List ℕ} {r : ℕ} → 26 ≤ length before → 11 ≤ place → Given (gem n) before r after → Handed 26 (call-at place n) before r after
-at-last {place} n {before} {after} {r} h past g =
-    kept h (subst⁻¹ (λ (c : Call). Given (c n) before r after) (List·getD-eq-default calls gem past) g)
+pub at-last : {place : ℕ} (n : List ℕ) {before : List ℕ} → 26 ≤ length before → length calls ≤ place → Handed 26 (call-at place n) before 0 before
+at-last {place} n {before} h past =
+    kept h (subst⁻¹ (λ (c : Call). Given (c n) before 0 before) (List·getD-eq-default calls nothing past) (Given.answer nothing-said))
 
 -- a part up to the row's end
 pub all-left : (at : ℕ) (l : List ℕ) → take (length l - at) (drop at l) ≡ drop at l

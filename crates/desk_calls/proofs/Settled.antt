@@ -9,10 +9,13 @@ use Rattle.clocks.specs.declared.Clocks.{Clocks}
 use Rattle.c_clocks.specs.Tells.{clockWords}
 use Rattle.c_gem.specs.Tells.{GemTells}
 use Rattle.c_gem.proofs.Laws as c-gem
-use Rattle.desk_calls.specs.Calls.{Answers, answers, GemOfImage, not-evaluated, of-record}
+use Rattle.desk_calls.specs.Calls.{Answers, answers, Nothing, nothing-said, GemOfImage, not-evaluated, of-record}
 
 pub one-number : {value : ℕ} → Single (Answers value)
 one-number _ _ answers answers = refl
+
+pub one-nothing : Single Nothing
+one-nothing _ _ nothing-said nothing-said = refl
 
 pub one-gem : (second : Bool) (word crystal : ℕ) (image : List ℕ) → Single (GemOfImage second word crystal image)
 one-gem second word crystal image _ _ (not-evaluated d) (not-evaluated e) = let f = sym d ∙ e in cc

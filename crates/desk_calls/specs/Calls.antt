@@ -78,9 +78,16 @@ clocks n = ClocksTells (nth n 0) (drop 1 n)
 abbrev pub gem : Call
 gem n = GemOfImage (isSet (nth n 0)) (word (drop 2 n) (nth n 0 + GEM-0-CLK-CTRL)) (nth n 1) (drop 2 n)
 
--- by their places; from place 11 on it is the GEM clock
+-- by their places
 abbrev pub calls : List Call
-calls = two-stage ∷ two-stage-frequency ∷ i2c ∷ i2c-speed ∷ ttc ∷ pll-target ∷ pll-mul ∷ uart ∷ cpu-init ∷ ddr-init ∷ clocks ∷ []
+calls = two-stage ∷ two-stage-frequency ∷ i2c ∷ i2c-speed ∷ ttc ∷ pll-target ∷ pll-mul ∷ uart ∷ cpu-init ∷ ddr-init ∷ clocks ∷ gem ∷ []
+
+-- past the last place nothing is called: no words
+pub data Nothing : Told (List ℕ) → Type 0 where
+  nothing-said : Nothing (answered [])
+
+abbrev pub nothing : Call
+nothing n = Nothing
 
 abbrev pub call-at : ℕ → Call
-call-at place = getD calls place gem
+call-at place = getD calls place nothing

@@ -47,7 +47,8 @@ pub fn call(place: usize, n: &[u32], out: &mut [u32]) -> u64
         8 => cpu_init(a, b != 0, c, out),
         9 => ddr_init(a, b, c, out),
         10 => clocks(a, from(n, 1), out),
-        _ => gem_of_image(a, b, from(n, 2), out),
+        11 => gem_of_image(a, b, from(n, 2), out),
+        _ => 0,
     }
 }
 

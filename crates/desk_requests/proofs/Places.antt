@@ -1,64 +1,55 @@
--- The code's three lines are the table's columns: names, shapes, forms.
-use Prim.Native.Nat.{ℕ, zero, suc, _+_, _≤_, _<_}
-use mathlib.Core.Path.{_≡_, refl, sym, ap, _∙_}
-use mathlib.Core.List.{List, [], _∷_, map}
-use native.Mathlib.Omega.{arith}
-use lib.Dec.{lit≤}
-use lib.ListN.{length, getD, List·getD-map}
+-- The table by its places: the shape of each row, and what the row of a call says.
+use Prim.Native.Nat.{ℕ, zero, suc, _+_, _≤_}
+use mathlib.Core.Path.{_≡_, sym, ap, subst, subst⁻¹}
+use mathlib.Core.Bool.{Bool, true, _&&_}
+use mathlib.Core.List.{List, [], _∷_}
+use lib.Dec.{T, leb, leb→le, lit≤}
+use lib.ListN.{getD, List·getD-map}
 use Rattle.text.specs.Bytes.{bytes}
-use Rattle.words.specs.Words.{words}
 use Rattle.forms.specs.Told.{toldMost}
-use Rattle.desk_calls.specs.Calls.{call-at}
-use Rattle.desk_requests.specs.Row.{Request, Spoken}
-use Rattle.desk_requests.specs.Table.{row, names, requests, help, help-text}
+use Rattle.desk_calls.specs.Calls.{Call, calls, call-at, nothing}
+use Rattle.desk_requests.specs.Row.{Request, CallRow, Spoken, request}
+use Rattle.desk_requests.specs.Table.{row, requests, called, no-call, shapes, forms}
 
-abbrev pub NAMES : List ℕ
-NAMES = bytes "two-stage two-stage-frequency i2c i2c-speed ttc pll-target pll-mul uart cpu-init ddr-init clocks gem uart-list pll-seq help"
+pub same-shape : (place : ℕ) → getD shapes place [] ≡ bytes (row place .shape)
+unfolding row shapes
+same-shape place = List·getD-map (λ (r : Request). bytes (r .shape)) requests place (request no-call)
 
-abbrev pub SHAPES : List ℕ
-SHAPES = bytes "nnn nnn ns nbb nn nn n nn nfn nnn nw fnw nn pfbbbhhw "
+-- ---- the row of a call
+abbrev pub call-row : ℕ → CallRow
+call-row k = getD called k no-call
 
-abbrev pub FORMS : List ℕ
-FORMS = bytes "#_# # #_# # ?_# #_#_#_# #_#_#_# #_#_$ #_#_#_# #_# ok_#_#_#_#_#_#_#_#_#_#_#_#_#_#_#_#_#_#_#_#_~_#_#_#_# #"
+pub same-form : (k : ℕ) → getD forms k [] ≡ bytes (call-row k .form)
+unfolding forms
+same-form k = List·getD-map (λ (r : CallRow). bytes (r .form)) called k no-call
 
-abbrev pub HELP : List ℕ
-HELP = bytes "two-stage REF TARGET MAX gives D0 D1; two-stage-frequency REF D0 D1 gives HZ; i2c REF normal|fast gives A B; i2c-speed REF A B gives HZ; ttc REF FREQ gives none|PRESCALER TICKS; pll-target CRYSTAL TARGET gives FDIV CP RES LOCK; pll-mul MUL gives FDIV CP RES LOCK; uart REF BAUD gives CD BDIV ERROR; cpu-init PLL RATIO DIV gives 1X 2X 3X2X 6X4X; ddr-init REF DIV3X DIV2X gives 3X 2X; clocks CRYSTAL W0 .. W49 gives ok and ARM_PLL IO_PLL DDR_PLL CPU_REF RATIO 1X 2X 3X2X 6X4X DDR_REF DDR3X DDR2X IO_REF SMC QSPI SDIO UART SPI CAN PCAP TRACE|emio FPGA0 FPGA1 FPGA2 FPGA3; gem 0|1 CRYSTAL W0 .. W49 gives HZ; uart-list REF BAUD gives the count and CD:BDIV:ERROR for each pair; pll-seq arm|ddr|io BYPASSED FDIV CP RES LOCK LIMIT R1 R2 .. gives the accesses and the end; help gives this line"
+tells-of : CallRow → Call
+tells-of r = r .tells
 
-pub same-help : HELP ≡ help-text
-unfolding help-text
-same-help = refl
+same-call : (k : ℕ) → call-at k ≡ call-row k .tells
+unfolding tells-of
+same-call k = List·getD-map tells-of called k no-call
 
-pub same-names : words NAMES ≡ names
-unfolding names
-same-names = refl
-
-abbrev shape-of : Request → List ℕ
-shape-of r = bytes (r .shape)
-
-pub same-shape : (place : ℕ) → getD (words SHAPES) place [] ≡ bytes (row place .shape)
+pub same-row : (k : ℕ) → row (suc (suc (suc k))) ≡ request (call-row k)
 unfolding row
-same-shape place = List·getD-map shape-of requests place help
+same-row k = List·getD-map request called k no-call
 
--- a call's row: its form is short, and it says what the call at that place tells
-pub record IsCall (place : ℕ) (form : List ℕ) : Type 0 where
-  pub short : toldMost form ≤ 8000
-  pub says : (n text : List ℕ) → Spoken form (call-at place n) text → row place .says n text
+pub says-call : (k : ℕ) (n text : List ℕ) → Spoken (bytes (call-row k .form)) (call-at k n) text → row (suc (suc (suc k))) .says n text
+says-call k n text s =
+    subst⁻¹ (λ (r : Request). r .says n text) (same-row k) (subst (λ (c : Call). Spoken (bytes (call-row k .form)) (c n) text) (same-call k) s)
 
-abbrev form-at : ℕ → List ℕ
-form-at place = getD (words FORMS) place []
+-- every form is short, by one test of all of them
+abbrev every : List CallRow → Bool
+every [] = true
+every (r ∷ rows) = leb (toldMost (bytes (r .form))) 8000 && every rows
 
-pub is-call : (place : ℕ) → place < 12 → IsCall place (form-at place)
-unfolding row
-is-call zero h = record { short = lit≤ tt; says = λ n t s. s }
-is-call (suc zero) h = record { short = lit≤ tt; says = λ n t s. s }
-is-call (suc (suc zero)) h = record { short = lit≤ tt; says = λ n t s. s }
-is-call (suc (suc (suc zero))) h = record { short = lit≤ tt; says = λ n t s. s }
-is-call (suc (suc (suc (suc zero)))) h = record { short = lit≤ tt; says = λ n t s. s }
-is-call (suc (suc (suc (suc (suc zero))))) h = record { short = lit≤ tt; says = λ n t s. s }
-is-call (suc (suc (suc (suc (suc (suc zero)))))) h = record { short = lit≤ tt; says = λ n t s. s }
-is-call (suc (suc (suc (suc (suc (suc (suc zero))))))) h = record { short = lit≤ tt; says = λ n t s. s }
-is-call (suc (suc (suc (suc (suc (suc (suc (suc zero)))))))) h = record { short = lit≤ tt; says = λ n t s. s }
-is-call (suc (suc (suc (suc (suc (suc (suc (suc (suc zero))))))))) h = record { short = lit≤ tt; says = λ n t s. s }
-is-call (suc (suc (suc (suc (suc (suc (suc (suc (suc (suc zero)))))))))) h = record { short = lit≤ tt; says = λ n t s. s }
-is-call (suc (suc (suc (suc (suc (suc (suc (suc (suc (suc (suc zero))))))))))) h = record { short = lit≤ tt; says = λ n t s. s }
-is-call (suc (suc (suc (suc (suc (suc (suc (suc (suc (suc (suc (suc n)))))))))))) h = absurd (omega arith)
+both : (a b : Bool) → T (a && b) → T a × T b
+both true b t = (tt, t)
+
+short-in : (rows : List CallRow) → T (every rows) → (k : ℕ) → toldMost (bytes (getD rows k no-call .form)) ≤ 8000
+short-in [] t k = lit≤ tt
+short-in (r ∷ rows) t zero = leb→le (toldMost (bytes (r .form))) 8000 (both (leb (toldMost (bytes (r .form))) 8000) (every rows) t .0)
+short-in (r ∷ rows) t (suc k) = short-in rows (both (leb (toldMost (bytes (r .form))) 8000) (every rows) t .1) k
+
+pub short : (k : ℕ) → toldMost (bytes (call-row k .form)) ≤ 8000
+short = short-in called tt

@@ -1,8 +1,8 @@
 -- A line has one answer: each row of the table says one text of the numbers of a line. Assumes nothing.
 use Prim.Native.Nat.{ℕ, zero, suc, _<_, _^_}
 use mathlib.Core.Path.{_≡_, refl, sym, ap, _∙_, subst}
-use mathlib.Core.List.{List}
-use lib.ListN.{drop}
+use mathlib.Core.List.{List, [], _∷_}
+use lib.ListN.{getD, drop}
 use Rattle.refusals.specs.Told.{Told, answered, refused}
 use Rattle.handing.proofs.Unique.{Single}
 use Rattle.text.specs.Bytes.{bytes}
@@ -18,11 +18,12 @@ use Rattle.c_uart.proofs.Laws as c-uart
 use Rattle.c_clocks.proofs.Laws as c-clocks
 use Rattle.c_clock_setup.proofs.Laws as c-clock-setup
 use Rattle.desk_calls.specs.Calls.{nth, isSet}
-use Rattle.desk_calls.proofs.Settled.{one-number, one-gem}
+use Rattle.desk_calls.proofs.Settled.{one-number, one-gem, one-nothing}
 use Rattle.desk_uart_list.proofs.Listing as uart-list
-use Rattle.desk_requests.specs.Row.{Request, Spoken, refusal}
-use Rattle.desk_requests.specs.Table.{row}
+use Rattle.desk_requests.specs.Row.{Request, CallRow, Spoken, refusal, request as request-of}
+use Rattle.desk_requests.specs.Table.{row, called, no-call}
 use Rattle.desk_requests.specs.Answer.{read, Asked, told, at-fault, Answer, request, no-request}
+use Rattle.desk_requests.proofs.Places.{call-row, same-row}
 
 abbrev in-print : List ℕ → Told (List ℕ) → List ℕ
 in-print form (answered words) = printed form words
@@ -34,26 +35,68 @@ one-text form one (Spoken.answer x) (Spoken.refuses y) = ap (in-print form) (one
 one-text form one (Spoken.refuses x) (Spoken.answer y) = ap (in-print form) (one _ _ x y)
 one-text form one (Spoken.refuses x) (Spoken.refuses y) = ap (in-print form) (one _ _ x y)
 
--- row by row; past the table it is help
-module _ (n : List ℕ) (small : (i : ℕ) → nth n i < 2 ^ 32) (s t : List ℕ) where
-  one-says : (place : ℕ) → row place .says n s → row place .says n t → s ≡ t
-  unfolding row
-  one-says zero x y = one-text _ (c-two-stage.one (nth n 0) (nth n 1) (nth n 2)) x y
-  one-says (suc zero) x y = one-text _ one-number x y
-  one-says (suc (suc zero)) x y = one-text _ (c-i2c.one (nth n 0) (isSet (nth n 1))) x y
-  one-says (suc (suc (suc zero))) x y = one-text _ one-number x y
-  one-says (suc (suc (suc (suc zero)))) x y = one-text _ (c-ttc.one (nth n 0) (nth n 1)) x y
-  one-says (suc (suc (suc (suc (suc zero))))) x y = one-text _ (c-pll-settings.one-target (nth n 0) (nth n 1)) x y
-  one-says (suc (suc (suc (suc (suc (suc zero)))))) x y = one-text _ (c-pll-settings.one-mul (nth n 0)) x y
-  one-says (suc (suc (suc (suc (suc (suc (suc zero))))))) x y = one-text _ (c-uart.one (nth n 0) (nth n 1) (small 0) (small 1)) x y
-  one-says (suc (suc (suc (suc (suc (suc (suc (suc zero)))))))) x y = one-text _ (c-clock-setup.one-cpu (nth n 0) (isSet (nth n 1)) (nth n 2)) x y
-  one-says (suc (suc (suc (suc (suc (suc (suc (suc (suc zero))))))))) x y = one-text _ (c-clock-setup.one-ddr (nth n 0) (nth n 1) (nth n 2)) x y
-  one-says (suc (suc (suc (suc (suc (suc (suc (suc (suc (suc zero)))))))))) x y = one-text _ (c-clocks.one _ _) x y
-  one-says (suc (suc (suc (suc (suc (suc (suc (suc (suc (suc (suc zero))))))))))) x y = one-text _ (one-gem _ _ _ _) x y
-  one-says (suc (suc (suc (suc (suc (suc (suc (suc (suc (suc (suc (suc zero)))))))))))) x y = uart-list.unique x y
-  one-says (suc (suc (suc (suc (suc (suc (suc (suc (suc (suc (suc (suc (suc zero))))))))))))) x y = x ∙ sym y
-  one-says (suc (suc (suc (suc (suc (suc (suc (suc (suc (suc (suc (suc (suc (suc zero)))))))))))))) x y = x ∙ sym y
-  one-says (suc (suc (suc (suc (suc (suc (suc (suc (suc (suc (suc (suc (suc (suc (suc k))))))))))))))) x y = x ∙ sym y
+-- call by call, in the table's order
+abbrev Small : List ℕ → Type 0
+Small n = (i : ℕ) → nth n i < 2 ^ 32
+
+abbrev AllSingle : List CallRow → Type 0
+AllSingle [] = Unit {0}
+AllSingle (r ∷ rows) = ((n : List ℕ) → Small n → Single (r .tells n)) × AllSingle rows
+
+all-single : AllSingle called
+all-single = (
+  (λ n h. c-two-stage.one (nth n 0) (nth n 1) (nth n 2)),
+  (
+    (λ n h. one-number),
+    (
+      (λ n h. c-i2c.one (nth n 0) (isSet (nth n 1))),
+      (
+        (λ n h. one-number),
+        (
+          (λ n h. c-ttc.one (nth n 0) (nth n 1)),
+          (
+            (λ n h. c-pll-settings.one-target (nth n 0) (nth n 1)),
+            (
+              (λ n h. c-pll-settings.one-mul (nth n 0)),
+              (
+                (λ n h. c-uart.one (nth n 0) (nth n 1) (h 0) (h 1)),
+                (
+                  (λ n h. c-clock-setup.one-cpu (nth n 0) (isSet (nth n 1)) (nth n 2)),
+                  (
+                    (λ n h. c-clock-setup.one-ddr (nth n 0) (nth n 1) (nth n 2)),
+                    (
+                      (λ n h. c-clocks.one _ _),
+                      (
+                        (λ n h. one-gem _ _ _ _),
+                        tt,
+                      ),
+                    ),
+                  ),
+                ),
+              ),
+            ),
+          ),
+        ),
+      ),
+    ),
+  ),
+)
+
+single-at : (rows : List CallRow) → AllSingle rows → (k : ℕ) (n : List ℕ) → Small n → Single (getD rows k no-call .tells n)
+single-at [] all k n h = one-nothing
+single-at (r ∷ rows) all zero n h = all .0 n h
+single-at (r ∷ rows) all (suc k) n h = single-at rows (all .1) k n h
+
+one-call : (r : Request) (k : ℕ) (n : List ℕ) {s t : List ℕ} → Small n → r ≡ request-of (call-row k) → r .says n s → r .says n t → s ≡ t
+one-call r k n {s} {t} h e x y =
+    one-text (bytes (call-row k .form)) (single-at called all-single k n h) (subst (λ (q : Request). q .says n s) e x) (subst (λ (q : Request). q .says n t) e y)
+
+one-says : (n : List ℕ) → Small n → (s t : List ℕ) (place : ℕ) → row place .says n s → row place .says n t → s ≡ t
+unfolding row
+one-says n h s t zero x y = uart-list.unique x y
+one-says n h s t (suc zero) x y = x ∙ sym y
+one-says n h s t (suc (suc zero)) x y = x ∙ sym y
+one-says n h s t (suc (suc (suc k))) x y = one-call (row (suc (suc (suc k)))) k n h (same-row k) x y
 
 one-asked : (place : ℕ) (rest : List (List ℕ)) {s t : List ℕ} → Asked (row place) rest s → Asked (row place) rest t → s ≡ t
 one-asked place rest (told e x) (told d y) = one-says (read (row place) rest .numbers) (numbers-below (bytes (row place .shape)) MOST 2 rest) _ _ place x y

@@ -24,6 +24,16 @@ pub data Spoken (form : List ℕ) (Tells : Told (List ℕ) → Type 0) : List �
   answer : {words : List ℕ} → Tells (answered words) → Spoken form Tells (printed form words)
   refuses : {n : ℕ} {carried : List ℕ} → Tells (refused n carried) → Spoken form Tells (refusal n carried)
 
--- a row for a call. The form's words are those that the call tells; `_` in a form is a space.
-abbrev pub call : String → String → String → Call → String → Request
-call name shape form tells help = record { name = name; shape = shape; says = λ n. Spoken (bytes form) (tells n); help = help }
+-- A request that is a call: how its words are printed is a form, in which `_` is a space.
+pub record CallRow : Type 1 where
+  pub name : String
+  pub shape : String
+  pub form : String
+  pub tells : Call
+  pub help : String
+
+abbrev pub call : String → String → String → Call → String → CallRow
+call name shape form tells help = record { name = name; shape = shape; form = form; tells = tells; help = help }
+
+abbrev pub request : CallRow → Request
+request r = record { name = r .name; shape = r .shape; says = λ n. Spoken (bytes (r .form)) (r .tells n); help = r .help }

@@ -6,14 +6,14 @@ use mathlib.Core.Path.{_≡_}
 use mathlib.Core.List.{List, [], _∷_, _++_, map}
 use lib.ListN.{getD}
 use Rattle.text.specs.Bytes.{bytes}
-use Rattle.desk_calls.specs.Calls.{nth, two-stage, two-stage-frequency, i2c, i2c-speed, ttc, pll-target, pll-mul, uart, cpu-init, ddr-init, clocks, gem}
+use Rattle.desk_calls.specs.Calls.{nth, nothing, two-stage, two-stage-frequency, i2c, i2c-speed, ttc, pll-target, pll-mul, uart, cpu-init, ddr-init, clocks, gem}
 use Rattle.desk_uart_list.specs.List.{Listed}
 use Rattle.desk_pll_seq.specs.Request.{planOf, hostWords, runText}
-use Rattle.desk_requests.specs.Row.{Request, call}
+use Rattle.desk_requests.specs.Row.{Request, CallRow, call, request}
 
--- all but help
-abbrev pub asked : List Request
-asked =
+-- the requests that are calls, in the order of crate desk_calls
+abbrev pub called : List CallRow
+called =
     call "two-stage" "nnn" "#_#" two-stage "two-stage REF TARGET MAX gives D0 D1"
     ∷ call "two-stage-frequency" "nnn" "#" two-stage-frequency "two-stage-frequency REF D0 D1 gives HZ"
     ∷ call "i2c" "ns" "#_#" i2c "i2c REF normal|fast gives A B"
@@ -27,9 +27,14 @@ asked =
     ∷ call "clocks" "nw" "ok_#_#_#_#_#_#_#_#_#_#_#_#_#_#_#_#_#_#_#_#_~_#_#_#_#" clocks
     "clocks CRYSTAL W0 .. W49 gives ok and ARM_PLL IO_PLL DDR_PLL CPU_REF RATIO 1X 2X 3X2X 6X4X DDR_REF DDR3X DDR2X IO_REF SMC QSPI SDIO UART SPI CAN PCAP TRACE|emio FPGA0 FPGA1 FPGA2 FPGA3"
     ∷ call "gem" "fnw" "#" gem "gem 0|1 CRYSTAL W0 .. W49 gives HZ"
-    ∷ record { name = "uart-list"; shape = "nn"; says = λ n. Listed (nth n 0) (nth n 1); help = "uart-list REF BAUD gives the count and CD:BDIV:ERROR for each pair" }
-    ∷ record { name = "pll-seq"; shape = "pfbbbhhw"; says = λ n text. text ≡ runText (planOf n) (hostWords n); help = "pll-seq arm|ddr|io BYPASSED FDIV CP RES LOCK LIMIT R1 R2 .. gives the accesses and the end" }
     ∷ []
+
+-- the others
+abbrev pub uart-list : Request
+uart-list = record { name = "uart-list"; shape = "nn"; says = λ n. Listed (nth n 0) (nth n 1); help = "uart-list REF BAUD gives the count and CD:BDIV:ERROR for each pair" }
+
+abbrev pub pll-seq : Request
+pll-seq = record { name = "pll-seq"; shape = "pfbbbhhw"; says = λ n text. text ≡ runText (planOf n) (hostWords n); help = "pll-seq arm|ddr|io BYPASSED FDIV CP RES LOCK LIMIT R1 R2 .. gives the accesses and the end" }
 
 -- every line of help, with `; ` between, and help's own behind them
 abbrev pub helps : List Request → List ℕ
@@ -37,20 +42,28 @@ helps [] = bytes "help gives this line"
 helps (r ∷ rows) = bytes (r .help) ++ bytes "; " ++ helps rows
 
 unfoldable pub help-text : List ℕ
-help-text = helps asked
+help-text = helps (map request called ++ (uart-list ∷ pll-seq ∷ []))
 
 abbrev pub help : Request
 help = record { name = "help"; shape = ""; says = λ n text. text ≡ help-text; help = "help gives this line" }
 
+-- by their places: those that are no calls stand first, so that a call more moves none of them
 abbrev pub requests : List Request
-requests = asked ++ (help ∷ [])
+requests = uart-list ∷ pll-seq ∷ help ∷ map request called
 
--- by their places; past the table it is help
+-- past the table there is nothing to ask
+abbrev pub no-call : CallRow
+no-call = call "" "" "" nothing ""
+
 unfoldable pub row : ℕ → Request
-row place = getD requests place help
+row place = getD requests place (request no-call)
 
-abbrev pub name-of : Request → List ℕ
-name-of r = bytes (r .name)
-
+-- its columns, which the code has as lines of words
 unfoldable pub names : List (List ℕ)
-names = map name-of requests
+names = map (λ (r : Request). bytes (r .name)) requests
+
+unfoldable pub shapes : List (List ℕ)
+shapes = map (λ (r : Request). bytes (r .shape)) requests
+
+unfoldable pub forms : List (List ℕ)
+forms = map (λ (r : CallRow). bytes (r .form)) called

@@ -13,7 +13,7 @@ use shapes::read_shape;
 use text::put_bytes;
 use text::room;
 use words::nth_word;
-ghost use Prim.Native.Nat.{_+_, _≤_, _<_};
+ghost use Prim.Native.Nat.{_+_, _≤_};
 ghost use lib.ListN.{length};
 ghost use Rattle.words.specs.Words.{words, wordsFrom};
 ghost use Rattle.text.specs.Put.{InRoom};
@@ -29,7 +29,7 @@ pub fn answer_request(line: &[u8], out: &mut [u8], at: usize) -> usize
     }
     match read_name(
         line,
-        b"two-stage two-stage-frequency i2c i2c-speed ttc pll-target pll-mul uart cpu-init ddr-init clocks gem uart-list pll-seq help",
+        b"uart-list pll-seq help two-stage two-stage-frequency i2c i2c-speed ttc pll-target pll-mul uart cpu-init ddr-init clocks gem",
     ) {
         Named::Bad(fault) => put_fault(1, fault, out, at),
         Named::Name(place, next) => answer_named(place, line, next, out, at),
@@ -38,11 +38,11 @@ pub fn answer_request(line: &[u8], out: &mut [u8], at: usize) -> usize
 
 // The words after the name, which begin at `from`.
 fn answer_named(place: usize, line: &[u8], from: usize, out: &mut [u8], at: usize) -> usize
-    requires { ⌜ (place < 15) × (at + ROOM ≤ length (now out)) ⌝ }
+    requires { ⌜ at + ROOM ≤ length (now out) ⌝ }
     ensures { λ r. ⌜ Says (Asked (row place) (wordsFrom (now (line .entry)) from)) (now (out .entry)) at (now (out .exit)) r ⌝ }
 {
     let mut numbers = [0u32; 160];
-    let shapes = b"nnn nnn ns nbb nn nn n nn nfn nnn nw fnw nn pfbbbhhw ";
+    let shapes = b"nn pfbbbhhw  nnn nnn ns nbb nn nn n nn nfn nnn nw fnw";
     match read_shape(nth_word(shapes, place), line, from, &mut numbers) {
         Read::Bad(word, fault) => put_fault(word, fault, out, at),
         Read::Numbers(count) => answer_numbers(place, &numbers[..count], out, at),
@@ -50,25 +50,25 @@ fn answer_named(place: usize, line: &[u8], from: usize, out: &mut [u8], at: usiz
 }
 
 fn answer_numbers(place: usize, n: &[u32], out: &mut [u8], at: usize) -> usize
-    requires { ⌜ (place < 15) × (at + ROOM ≤ length (now out)) ⌝ }
+    requires { ⌜ at + ROOM ≤ length (now out) ⌝ }
     ensures { λ r. ⌜ Says (row place .says (now (n .entry))) (now (out .entry)) at (now (out .exit)) r ⌝ }
 {
     match place {
-        12 => put_uart_list(word(n, 0), word(n, 1), out, at),
-        13 => put_pll_seq(n, out, at),
-        14 => put_bytes(
+        0 => put_uart_list(word(n, 0), word(n, 1), out, at),
+        1 => put_pll_seq(n, out, at),
+        2 => put_bytes(
             b"two-stage REF TARGET MAX gives D0 D1; two-stage-frequency REF D0 D1 gives HZ; i2c REF normal|fast gives A B; i2c-speed REF A B gives HZ; ttc REF FREQ gives none|PRESCALER TICKS; pll-target CRYSTAL TARGET gives FDIV CP RES LOCK; pll-mul MUL gives FDIV CP RES LOCK; uart REF BAUD gives CD BDIV ERROR; cpu-init PLL RATIO DIV gives 1X 2X 3X2X 6X4X; ddr-init REF DIV3X DIV2X gives 3X 2X; clocks CRYSTAL W0 .. W49 gives ok and ARM_PLL IO_PLL DDR_PLL CPU_REF RATIO 1X 2X 3X2X 6X4X DDR_REF DDR3X DDR2X IO_REF SMC QSPI SDIO UART SPI CAN PCAP TRACE|emio FPGA0 FPGA1 FPGA2 FPGA3; gem 0|1 CRYSTAL W0 .. W49 gives HZ; uart-list REF BAUD gives the count and CD:BDIV:ERROR for each pair; pll-seq arm|ddr|io BYPASSED FDIV CP RES LOCK LIMIT R1 R2 .. gives the accesses and the end; help gives this line",
             out,
             at,
         ),
-        _ => answer_call(place, n, out, at),
+        _ => answer_call(place - 3, n, out, at),
     }
 }
 
-// What the call at a place tells, printed by the form at that place.
+// What the call at a place tells, printed by the form at that place. Calls are counted from the fourth row on.
 fn answer_call(place: usize, n: &[u32], out: &mut [u8], at: usize) -> usize
-    requires { ⌜ (place < 12) × (at + ROOM ≤ length (now out)) ⌝ }
-    ensures { λ r. ⌜ Says (row place .says (now (n .entry))) (now (out .entry)) at (now (out .exit)) r ⌝ }
+    requires { ⌜ at + ROOM ≤ length (now out) ⌝ }
+    ensures { λ r. ⌜ Says (row (3 + place) .says (now (n .entry))) (now (out .entry)) at (now (out .exit)) r ⌝ }
 {
     let mut words = [0u32; 26];
     let told = call(place, n, &mut words);

@@ -44,20 +44,24 @@ returns-12 : tie.Need-returns-12
 returns-12 c = at-place _ 10 (omega arith) (c .before .before .before .before .before .match .keys11) (rw (c .before .before .before .before .before .before .before .before .word .ensures, c .before .before .before .before .from .ensures) at (c .before .before .clocks .ensures .fits (omega arith)))
 
 returns-13 : tie.Need-returns-13
-returns-13 c =
-    let r = c .before .before .before .before .before .match .rest in
-    let h1 = above 0 zero-le (r .0 .0 .0 .0 .0 .0 .0 .0 .0 .0 .1) in
-    let h2 = above 1 h1 (r .0 .0 .0 .0 .0 .0 .0 .0 .0 .1) in
-    let h3 = above 2 h2 (r .0 .0 .0 .0 .0 .0 .0 .0 .1) in
-    let h4 = above 3 h3 (r .0 .0 .0 .0 .0 .0 .0 .1) in
-    let h5 = above 4 h4 (r .0 .0 .0 .0 .0 .0 .1) in
-    let h6 = above 5 h5 (r .0 .0 .0 .0 .0 .1) in
-    let h7 = above 6 h6 (r .0 .0 .0 .0 .1) in
-    let h8 = above 7 h7 (r .0 .0 .0 .1) in
-    let h9 = above 8 h8 (r .0 .0 .1) in
-    let h10 = above 9 h9 (r .0 .1) in
-    let h11 = above 10 h10 (r .1) in
-    at-last _ (omega arith) h11 (rw (c .before .before .before .before .before .before .before .before .word .ensures, c .before .before .before .before .before .before .before .word2 .ensures, c .before .before .before .before .from2 .ensures) at (c .before .before .gem-of-image .ensures))
+returns-13 c = at-place _ 11 (omega arith) (c .before .before .before .before .before .match .keys12) (rw (c .before .before .before .before .before .before .before .before .word .ensures, c .before .before .before .before .before .before .before .word2 .ensures, c .before .before .before .before .from2 .ensures) at (c .before .before .gem-of-image .ensures))
+
+returns-14 : tie.Need-returns-14
+returns-14 c =
+    let r = c .match .rest in
+    let h1 = above 0 zero-le (r .0 .0 .0 .0 .0 .0 .0 .0 .0 .0 .0 .1) in
+    let h2 = above 1 h1 (r .0 .0 .0 .0 .0 .0 .0 .0 .0 .0 .1) in
+    let h3 = above 2 h2 (r .0 .0 .0 .0 .0 .0 .0 .0 .0 .1) in
+    let h4 = above 3 h3 (r .0 .0 .0 .0 .0 .0 .0 .0 .1) in
+    let h5 = above 4 h4 (r .0 .0 .0 .0 .0 .0 .0 .1) in
+    let h6 = above 5 h5 (r .0 .0 .0 .0 .0 .0 .1) in
+    let h7 = above 6 h6 (r .0 .0 .0 .0 .0 .1) in
+    let h8 = above 7 h7 (r .0 .0 .0 .0 .1) in
+    let h9 = above 8 h8 (r .0 .0 .0 .1) in
+    let h10 = above 9 h9 (r .0 .0 .1) in
+    let h11 = above 10 h10 (r .0 .1) in
+    let h12 = above 11 h11 (r .1) in
+    at-last _ (omega arith) h12
 
 pub call-spec : {M : Type 1} → statement M
 call-spec =
@@ -105,4 +109,5 @@ call-spec =
     (λ c. search needs)
     returns-12
     (λ c. search needs)
-    returns-13)
+    returns-13
+    returns-14)

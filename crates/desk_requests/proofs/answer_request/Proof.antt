@@ -4,20 +4,20 @@ use denote.Ref.{now}
 use mathlib.Core.Path.{refl}
 use native.Mathlib.Omega.{arith}
 use Rattle.bounds.proofs.Bound.{kept, past}
-use Rattle.desk_requests.proofs.Asking.{unknown, below, known}
+use Rattle.desk_requests.specs.Table.{names}
+use Rattle.desk_requests.proofs.Asking.{unknown, known}
 use Rattle.desk_requests.proofs.answer_request.Statement.{statement}
 use Rattle.desk_requests.proofs.answer_request.Tie as tie
 
 returns : tie.Need-returns
 returns c = past (omega arith) (refl, refl)
 
-answer-named-requires : tie.Need-answer-named-requires
-answer-named-requires c κs = (below (now (c .before .before .before .before .before .before .before .before .before .before .args .line)) (c .before .before .before .before .read-name .ensures) (c .before .before .place .given .1), omega arith)
-
 returns-2 : tie.Need-returns-2
+unfolding names
 returns-2 c = kept (omega arith) (unknown (now (c .before .before .before .before .before .before .before .before .before .before .before .before .before .args .line)) (c .before .before .before .before .before .before .before .read-name .ensures) (c .before .before .before .before .before .fault .given .1) (c .before .before .put-fault .ensures .fits (omega arith)))
 
 returns-3 : tie.Need-returns-3
+unfolding names
 returns-3 c = kept (omega arith) (known (now (c .before .before .before .before .before .before .before .before .before .before .before .before .before .args .line)) (c .before .before .before .before .before .before .before .read-name .ensures) (c .before .before .before .before .before .place .given .1) (c .before .before .answer-named .ensures))
 
 pub answer-request-spec : {M : Type 1} → statement M
@@ -32,7 +32,7 @@ answer-request-spec =
     (λ c. search needs)
     (λ c κs. search needs)
     (λ c. search needs)
-    answer-named-requires
+    (λ c κs. search needs)
     (λ c. search needs)
     returns-2
     (λ c. search needs)
