@@ -7,14 +7,10 @@ use lib.ListN.{length, take, drop, length-take, length-drop, List·getD-eq-defau
 use lib.Seq.{take-all}
 use Rattle.bounds.proofs.Bound.{kept}
 use Rattle.handing.specs.Handed.{Given, Handed}
-use Rattle.desk_calls.specs.Calls.{Call, calls, call-at, nothing, nothing-said, Answers}
+use Rattle.desk_calls.specs.Calls.{Call, calls, call-at, nothing, nothing-said}
 
 pub at-place : {place : ℕ} (n : List ℕ) {before after : List ℕ} {r : ℕ} (k : ℕ) → 26 ≤ length before → place ≡ k → Given (call-at k n) before r after → Handed 26 (call-at place n) before r after
 at-place n {before} {after} {r} k h e g = kept h (subst⁻¹ (λ (p : ℕ). Given (call-at p n) before r after) e g)
-
--- one number, put into the row
-pub one-number : {value v : ℕ} {before after : List ℕ} {r : ℕ} → v ≡ value → (r ≡ 0) × (after ≡ (v ∷ []) ++ drop 1 before) → Given (Answers value) before r after
-one-number e (z, w) = rw (z, w, e) (Given.answer Answers.answers)
 
 -- the last arm: no place before it
 pub above : (k : ℕ) {i : ℕ} → k ≤ i → (i ≡ k → ⊥) → suc k ≤ i

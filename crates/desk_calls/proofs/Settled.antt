@@ -4,12 +4,13 @@ use mathlib.Core.Path.{_≡_, refl, sym, subst, _∙_}
 use mathlib.Core.Bool.{Bool}
 use mathlib.Core.List.{List}
 use Rattle.refusals.specs.Told.{Told, answered, refused}
+use Rattle.handing.specs.Handed.{Answers, answers}
 use Rattle.handing.proofs.Unique.{Single}
 use Rattle.clocks.specs.declared.Clocks.{Clocks}
 use Rattle.c_clocks.specs.Tells.{clockWords}
 use Rattle.c_gem.specs.Tells.{GemTells}
 use Rattle.c_gem.proofs.Laws as c-gem
-use Rattle.desk_calls.specs.Calls.{Answers, answers, Nothing, nothing-said, GemOfImage, not-evaluated, of-record}
+use Rattle.desk_calls.specs.Calls.{Nothing, nothing-said, GemOfImage, not-evaluated, of-record}
 
 pub one-number : {value : ℕ} → Single (Answers value)
 one-number _ _ answers answers = refl

@@ -8,6 +8,7 @@ use lib.Dec.{eqb}
 use lib.ListN.{getD, drop}
 use Rattle.refusals.specs.Told.{Told, answered, refused}
 use Rattle.registers.specs.Words.{word, GEM-0-CLK-CTRL}
+use Rattle.handing.specs.Handed.{Answers}
 use Rattle.two_stage.specs.Best.{frequency}
 use Rattle.i2c.specs.Divisors.{clock}
 use Rattle.clocks.specs.declared.Clocks.{Clocks}
@@ -31,10 +32,6 @@ nth n i = getD n i 0
 
 abbrev pub isSet : ℕ → Bool
 isSet n = not (eqb n 0)
-
--- a call that answers one number and refuses nothing
-pub data Answers (value : ℕ) : Told (List ℕ) → Type 0 where
-  answers : Answers value (answered (value ∷ []))
 
 -- a GEM clock of an image: evaluation's refusals come first, and then GEM's own
 pub data GemOfImage (second : Bool) (word crystal : ℕ) (image : List ℕ) : Told (List ℕ) → Type 0 where

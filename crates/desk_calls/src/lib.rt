@@ -12,18 +12,15 @@ use c_two_stage::two_stage;
 use c_two_stage::two_stage_frequency;
 use c_uart::uart;
 use handing::no_room;
-use handing::put;
+use handing::put_number;
 use registers::GEM_0_CLK_CTRL;
 use registers::word;
 ghost use mathlib.Core.Path.{_≡_};
-ghost use mathlib.Core.List.{[], _∷_};
-ghost use Prim.Native.Nat.{_+_, _%_, _≤_};
+ghost use Prim.Native.Nat.{_+_, _≤_};
 ghost use lib.ListN.{length, drop};
 ghost use Rattle.registers.specs.Words.{word as word-of, GEM-0-CLK-CTRL};
-ghost use Rattle.two_stage.specs.Best.{frequency as frequencyOf};
-ghost use Rattle.i2c.specs.Divisors.{clock};
 ghost use Rattle.handing.specs.Handed.{Handed, Given};
-ghost use Rattle.desk_calls.specs.Calls.{call-at, Answers, GemOfImage, isSet};
+ghost use Rattle.desk_calls.specs.Calls.{call-at, GemOfImage, isSet};
 
 // Makes the call at a place. Twenty-six words have room for every answer.
 pub fn call(place: usize, n: &[u32], out: &mut [u32]) -> u64
@@ -37,9 +34,9 @@ pub fn call(place: usize, n: &[u32], out: &mut [u32]) -> u64
     let c = word(n, 2);
     match place {
         0 => two_stage(a, b, c, out),
-        1 => frequency(a, b, c, out),
+        1 => put_number(two_stage_frequency(a, b, c), out),
         2 => i2c(a, b != 0, out),
-        3 => speed(a, b, c, out),
+        3 => put_number(i2c_speed(a, (b % 256) as u8, (c % 256) as u8), out),
         4 => ttc(a, b, out),
         5 => pll_target(a, b, out),
         6 => pll_mul(a, out),
@@ -61,22 +58,6 @@ fn from(n: &[u32], at: usize) -> &[u32]
     } else {
         &n[n.len()..]
     }
-}
-
-// The frequency of a pair of divisors.
-fn frequency(reference: u32, div0: u32, div1: u32, out: &mut [u32]) -> u64
-    requires { ⌜ 26 ≤ length (now out) ⌝ }
-    ensures { λ r. ⌜ Given (Answers (frequencyOf reference div0 div1)) (now (out .entry)) r (now (out .exit)) ⌝ }
-{
-    put(out, &[two_stage_frequency(reference, div0, div1)])
-}
-
-// The I2C speed of two register values, as far as their 8 bits go.
-fn speed(input: u32, a: u32, b: u32, out: &mut [u32]) -> u64
-    requires { ⌜ 26 ≤ length (now out) ⌝ }
-    ensures { λ r. ⌜ Given (Answers (clock input (a % 256 + 1) (b % 256 + 1))) (now (out .entry)) r (now (out .exit)) ⌝ }
-{
-    put(out, &[i2c_speed(input, (a % 256) as u8, (b % 256) as u8)])
 }
 
 // GEM takes an evaluated record: here the image is evaluated first.

@@ -9,7 +9,7 @@ use Rattle.bounds.proofs.Bound.{kept, past}
 use Rattle.refusals.specs.Told.{Told, answered, refused, InWords}
 use Rattle.refusals.specs.Carried.{Carried, carries, carries-nothing}
 use Rattle.refusals.specs.Number.{NO-ROOM}
-use Rattle.handing.specs.Handed.{Given, Handed, code}
+use Rattle.handing.specs.Handed.{Given, Handed, Answers, code}
 
 pub no-row : {room : ℕ} {Tells : Told (List ℕ) → Type 0} {before : List ℕ} {r : ℕ} → length before < room → r ≡ code NO-ROOM (room ∷ []) → Handed room Tells before r before
 no-row h e = past h (e, refl)
@@ -25,6 +25,10 @@ module _ {A : Type 0} {words : A → List ℕ} {Right : Told A → Type 0} {room
       kept h
       (subst (λ (n : ℕ). Given (InWords words Right) before n after) (sym z)
       (subst (Given (InWords words Right) before 0) (sym w) (Given.answer (InWords.answer (subst Right e right)))))
+
+-- one number, put into the row
+pub one-number : {value : ℕ} {before after : List ℕ} {r : ℕ} → (r ≡ 0) × (after ≡ (value ∷ []) ++ drop 1 before) → Given (Answers value) before r after
+one-number (z, w) = rw (z, w) (Given.answer Answers.answers)
 
 -- what is given by one rule is given by any rule that follows from it
 pub given-by : {Tells Wider : Told (List ℕ) → Type 0} {before after : List ℕ} {r : ℕ} → ((t : Told (List ℕ)) → Tells t → Wider t) →

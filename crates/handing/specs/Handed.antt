@@ -31,3 +31,7 @@ pub data Given (Tells : Told (List ℕ) → Type 0) (before : List ℕ) : ℕ �
 abbrev pub Handed : ℕ → (Told (List ℕ) → Type 0) → List ℕ → ℕ → List ℕ → Type 0
 Handed room Tells before r after =
     Within room (length before) (Given Tells before r after) ((r ≡ code NO-ROOM (room ∷ [])) × (after ≡ before))
+
+-- what a call tells that answers one number and refuses nothing
+pub data Answers (value : ℕ) : Told (List ℕ) → Type 0 where
+  answers : Answers value (answered (value ∷ []))

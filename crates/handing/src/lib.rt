@@ -5,7 +5,7 @@ ghost use Prim.Native.Nat.{_≤_, _<_, _%_, _^_};
 ghost use lib.ListN.{length, drop};
 ghost use Rattle.refusals.specs.Number.{NO-ROOM};
 ghost use Rattle.bounds.specs.Within.{Within};
-ghost use Rattle.handing.specs.Handed.{code};
+ghost use Rattle.handing.specs.Handed.{code, Handed, Answers};
 
 // A refusal that carries a number.
 pub fn carrying(number: u32, carried: u32) -> u64
@@ -41,4 +41,11 @@ pub fn put(out: &mut [u32], words: &[u32]) -> u64
     }
     put_front(out, words);
     0
+}
+
+// An answer of one number.
+pub fn put_number(value: u32, out: &mut [u32]) -> u64
+    ensures { λ r. ⌜ Handed 1 (Answers value) (now (out .entry)) r (now (out .exit)) ⌝ }
+{
+    put(out, &[value])
 }

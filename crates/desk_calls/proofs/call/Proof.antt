@@ -14,13 +14,13 @@ returns-2 : tie.Need-returns-2
 returns-2 c = at-place _ 0 (omega arith) (c .before .before .before .before .match .keys1) (rw (c .before .before .before .before .before .before .before .word .ensures, c .before .before .before .before .before .before .word2 .ensures, c .before .before .before .before .before .word3 .ensures) at (c .before .before .two-stage .ensures .fits (omega arith)))
 
 returns-3 : tie.Need-returns-3
-returns-3 c = at-place _ 1 (omega arith) (c .before .before .before .before .match .keys2) (rw (c .before .before .before .before .before .before .before .word .ensures, c .before .before .before .before .before .before .word2 .ensures, c .before .before .before .before .before .word3 .ensures) at (c .before .before .frequency .ensures))
+returns-3 c = at-place _ 1 (omega arith) (c .before .before .before .before .before .match .keys2) (rw (c .before .before .before .before .two-stage-frequency .ensures, c .before .before .before .before .before .before .before .before .word .ensures, c .before .before .before .before .before .before .before .word2 .ensures, c .before .before .before .before .before .before .word3 .ensures) at (c .before .before .put-number .ensures .fits (omega arith)))
 
 returns-4 : tie.Need-returns-4
 returns-4 c = at-place _ 2 (omega arith) (c .before .before .before .before .match .keys3) (rw (c .before .before .before .before .before .before .before .word .ensures, c .before .before .before .before .before .before .word2 .ensures) at (c .before .before .i2c .ensures .fits (omega arith)))
 
 returns-5 : tie.Need-returns-5
-returns-5 c = at-place _ 3 (omega arith) (c .before .before .before .before .match .keys4) (rw (c .before .before .before .before .before .before .before .word .ensures, c .before .before .before .before .before .before .word2 .ensures, c .before .before .before .before .before .word3 .ensures) at (c .before .before .speed .ensures))
+returns-5 c = at-place _ 3 (omega arith) (c .before .before .before .before .before .match .keys4) (rw (c .before .before .before .before .i2c-speed .ensures, c .before .before .before .before .before .before .before .before .word .ensures, c .before .before .before .before .before .before .before .word2 .ensures, c .before .before .before .before .before .before .word3 .ensures) at (c .before .before .put-number2 .ensures .fits (omega arith)))
 
 returns-6 : tie.Need-returns-6
 returns-6 c = at-place _ 4 (omega arith) (c .before .before .before .before .match .keys5) (rw (c .before .before .before .before .before .before .before .word .ensures, c .before .before .before .before .before .before .word2 .ensures) at (c .before .before .ttc .ensures .fits (omega arith)))
@@ -74,6 +74,10 @@ call-spec =
     (λ c κs. search needs)
     (λ c κs. search needs)
     (λ c κs. search needs)
+    (λ c κs. search needs)
+    (λ c κs. search needs)
+    (λ c. search needs)
+    (λ c. search needs)
     (λ c κs. search needs)
     (λ c κs. search needs)
     (λ c κs. search needs)
