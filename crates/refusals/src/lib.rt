@@ -1,1 +1,1 @@
-// The refusals of document 01. There is no code here: specs/ has what the other crates' promises say them by.
+// The refusals by number, and what a call tells. There is no code here: specs/ has what the other crates' promises say them by.
