@@ -1,12 +1,12 @@
--- What is parsed fits the row, each number is at most the largest of its kind, and what the row and the answer tell of it.
+-- Each number that is parsed is at most the largest of its kind, and what the row and the answer tell of it.
 use mathlib.Core.Path.{_≡_, refl, ap, _∙_}
 use mathlib.Core.Bool.{Bool, true, false, cond}
 use mathlib.Core.List.{List, [], _∷_, _++_}
-use Prim.Native.Nat.{ℕ, zero, suc, _+_, _^_, _≤_, _<_, zero-le, suc-le-suc}
+use Prim.Native.Nat.{ℕ, zero, suc, _+_, _^_, _≤_, _<_, zero-le}
 use native.Mathlib.Omega.{arith}
 use borrow.Author.Tests.{ltb-false}
 use lib.Dec.{eqb, ltb, lit≤}
-use lib.ListN.{length, getD, take, drop, replicate}
+use lib.ListN.{length, getD, take, drop}
 use lib.Seq.{take-append-seam}
 use Rattle.text.specs.Bytes.{bytes}
 use Rattle.words.specs.Reading.{hexOf, decimalOf}
@@ -21,25 +21,12 @@ use Rattle.words.proofs.Choosing.{chosen, never}
 use Rattle.words.proofs.Reading.{hex-below}
 use Rattle.words.proofs.Splitting.{place-below}
 use Rattle.shapes.specs.Field.{upTo, eightDigits, known, name, most, fieldOf}
-use Rattle.shapes.specs.Shape.{MOST, End, all, bad, Parsed, then, parse, readOf, Reads}
+use Rattle.shapes.specs.Shape.{End, all, bad, Parsed, then, parse, readOf, Reads}
 use Rattle.shapes.specs.declared.fields.Fault.{Fault}
 use Rattle.shapes.specs.declared.fields.FieldRead.{FieldRead}
 use Rattle.shapes.specs.declared.fields.FieldRead.the-variants as FieldRead
 use Rattle.shapes.specs.declared.Read.{Read}
 use Rattle.shapes.specs.declared.Read.the-variants as Read
-
--- the row has room
-one-more : (k : ℕ) (f : FieldRead) (p : Parsed) {room : ℕ} → length (p .numbers) ≤ room → length (then k f p .numbers) ≤ suc room
-one-more k (FieldRead.Value v) p h = suc-le-suc h
-one-more k (FieldRead.Bad f) p h = zero-le
-
-pub few : (shape : List ℕ) (room k : ℕ) (words : List (List ℕ)) → length (parse shape room k words .numbers) ≤ room
-unfolding parse
-few [] room k [] = zero-le
-few [] room k (word ∷ words) = zero-le
-few (kind ∷ shape) room k [] = zero-le
-few (kind ∷ shape) zero k (word ∷ words) = zero-le
-few (kind ∷ shape) (suc room) k (word ∷ words) = one-more k (fieldOf kind word) (parse (cond (eqb kind 119) (kind ∷ shape) shape) room (k + 1) words) (few (cond (eqb kind 119) (kind ∷ shape) shape) room (k + 1) words)
 
 -- the largest number of a kind
 abbrev pub largest : ℕ → ℕ
@@ -127,19 +114,3 @@ module _ {p : Parsed} {before after : List ℕ} where
 
   pub read-bad : {k : ℕ} {f : Fault} → Reads p before after (Read.Bad k f) → p .end ≡ bad k f
   read-bad r = when-bad (length (p .numbers)) (p .end) (r .answer)
-
--- a row that was all zeros holds the numbers, and zeros behind them
-zeros : (n k i : ℕ) → _≡_ {A = ℕ} (getD (drop k (replicate n 0)) i 0) 0
-zeros zero zero i = refl
-zeros zero (suc k) i = refl
-zeros (suc n) zero zero = refl
-zeros (suc n) zero (suc i) = zeros n zero i
-zeros (suc n) (suc k) i = zeros n k i
-
-padded : (vs zs : List ℕ) → ((i : ℕ) → getD zs i 0 ≡ 0) → (i : ℕ) → getD (vs ++ zs) i 0 ≡ getD vs i 0
-padded [] zs z i = z i
-padded (v ∷ vs) zs z zero = refl
-padded (v ∷ vs) zs z (suc i) = padded vs zs z i
-
-pub row-at : {p : Parsed} {after : List ℕ} {r : Read} → Reads p (replicate MOST 0) after r → (i : ℕ) → getD after i 0 ≡ getD (p .numbers) i 0
-row-at {p} r i = ap (λ (l : List ℕ). getD l i 0) (r .row) ∙ padded (p .numbers) (drop (length (p .numbers)) (replicate MOST 0)) (zeros MOST (length (p .numbers))) i
