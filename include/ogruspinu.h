@@ -7,9 +7,9 @@
  * words. The pointer may be null where the length is 0; two rows of one call must not overlap.
  *
  * A call that can refuse returns 64 bits. ogr_number() of them is 0 for an answer, else the refusal's number. ogr_carried() of them is
- * what the refusal carries, 0 where it carries nothing, or the answer itself where that is a single number. Any longer answer stands
- * at the front of the lent row `out`, and what lies behind it stays as it was. The calls of the PLL sequence return a struct instead,
- * whose `refusal` is 0 or the number.
+ * what the refusal carries, 0 where it carries nothing. An answer stands at the front of the lent row `out`, and what lies behind it
+ * stays as it was; of ogr_uart_list alone, which is lent records, ogr_carried() of an answer is how many there are. The calls of the PLL
+ * sequence return a struct instead, whose `refusal` is 0 or the number.
  *
  * A refusal writes nothing. A row `out` that is too short is refused before anything else is looked at: OGR_NO_ROOM, which carries the
  * words needed. So `out_len` 0 asks how long a row has to be. ogr_gem looks at the row of clocks before that, and rows whose length
@@ -197,7 +197,7 @@ struct ogr_baud_divisors {
 /* 0 for an answer, else the refusal's number. */
 static inline uint32_t ogr_number(uint64_t told) { return (uint32_t)told; }
 
-/* What the refusal carries, or the answer where it is a single number. */
+/* What the refusal carries; of an answer of ogr_uart_list, how many pairs there are. */
 static inline uint32_t ogr_carried(uint64_t told) { return (uint32_t)(told >> 32); }
 
 /* ---- Two-stage dividers ---- */

@@ -9,6 +9,7 @@ use Rattle.text.specs.Bytes.{bytes}
 use Rattle.forms.specs.Told.{toldMost}
 use Rattle.desk_calls.specs.Calls.{Call, calls, call-at, nothing}
 use Rattle.desk_requests.specs.Row.{Request, CallRow, Spoken, request}
+use Rattle.desk_requests.proofs.Speaking.{both}
 use Rattle.desk_requests.specs.Table.{row, requests, called, no-call, shapes, forms}
 
 pub same-shape : (place : ℕ) → getD shapes place [] ≡ bytes (row place .shape)
@@ -42,9 +43,6 @@ says-call k n text s =
 abbrev every : List CallRow → Bool
 every [] = true
 every (r ∷ rows) = leb (toldMost (bytes (r .form))) 8000 && every rows
-
-both : (a b : Bool) → T (a && b) → T a × T b
-both true b t = (tt, t)
 
 short-in : (rows : List CallRow) → T (every rows) → (k : ℕ) → toldMost (bytes (getD rows k no-call .form)) ≤ 8000
 short-in [] t k = lit≤ tt
