@@ -17,7 +17,7 @@ abbrev pub gemModule : Bool → ClockModuleId
 gemModule true = Gem1
 gemModule false = Gem0
 
--- that these are a record's own is the law `outputs-of-record` of proofs/Laws.antt
+-- that these are a record's own is the law `outputs-of-record` of crate c_clocks
 abbrev pub outputsIn : List ℕ → PllOutputs
 outputsIn row = record { «arm_pll_out» = getD row 0 0; «ddr_pll_out» = getD row 2 0; «io_pll_out» = getD row 1 0 }
 

@@ -1,11 +1,14 @@
-// The desk: requests on standard input, one a line, and an answer to each on standard output, in order. The work is
-// desk_blocks::answer_block, which is proved; here bytes are read and written.
-use desk_blocks::answer_block;
-use desk_blocks::keep;
-use desk_lines::Answered;
-use desk_lines::answer_line;
+// The desk: requests on standard input, one a line, and an answer to each on standard output, in order. What is answered to a line stands in
+// `line`, and to the lines of a block in `block`; here bytes are read and written.
+mod block;
+mod line;
+
+use block::answer_block;
+use line::Answered;
+use line::answer_line;
 use libc::STDIN_FILENO;
 use libc::STDOUT_FILENO;
+use text::keep;
 ghost use Prim.Native.Nat.{_+_, _≤_};
 ghost use lib.ListN.{length};
 

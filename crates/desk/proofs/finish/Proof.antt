@@ -3,7 +3,7 @@ use borrow.Author.Needs.{needs}
 use mathlib.Core.Path.{sym}
 use lib.Seq.{length-take-le}
 use Rattle.text.proofs.Writing.{still-inside}
-use Rattle.desk_blocks.proofs.Stepping.{at-next}
+use Rattle.desk.proofs.Stepping.{at-next}
 use Rattle.desk.proofs.finish.Statement.{statement}
 use Rattle.desk.proofs.finish.Tie as tie
 

@@ -1,0 +1,4 @@
+mod Lines
+pub mod OneLine
+pub mod OneSession
+mod Stepping

@@ -1,4 +1,0 @@
-pub mod Keeping
-pub mod Parts
-pub mod Settled
-pub mod Stepping
