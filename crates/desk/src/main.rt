@@ -4,10 +4,10 @@ mod block;
 mod line;
 
 use block::answer_block;
-use line::Answered;
-use line::answer_line;
 use libc::STDIN_FILENO;
 use libc::STDOUT_FILENO;
+use line::Answered;
+use line::answer_line;
 use text::keep;
 ghost use Prim.Native.Nat.{_+_, _≤_};
 ghost use lib.ListN.{length};
