@@ -1,4 +1,5 @@
-# The prototypes that the exported functions of Rattle sources have in C (-v to=c) or Rust (-v to=rust), a line each.
+# The prototypes that the exported functions of Rattle sources, or of the Rust crate's `exports!`, have in C (-v to=c) or Rust (-v to=rust),
+# a line each.
 # A slice `x: &[T]` passes as a pointer x and a length x_len, and a struct by value: PllPlan is struct ogr_pll_plan in C (names.awk).
 
 function trim(s) { gsub(/^[ \t]+|[ \t]+$/, "", s); return s }
@@ -41,8 +42,9 @@ function prototype(text,    name, given, parts, n, i, half, all) {
     else print "fn " name "(" all ") -> " given
 }
 
-# A signature ends where its contract or its body begins.
+# A signature ends where its contract or its body begins, and in Rust at its semicolon.
 gathering && /^[ \t]*(ensures|requires|\{)/ { prototype(gathered); gathering = 0 }
-/pub extern "C" fn / { gathering = 1; gathered = "" }
+/pub extern "C" fn |: fn ogr_/ { gathering = 1; gathered = "" }
 gathering { gathered = gathered " " $0 }
+gathering && /;$/ { sub(/;$/, "", gathered); prototype(gathered); gathering = 0 }
 END { exit bad }

@@ -33,7 +33,6 @@
 
 pub mod clock_setup;
 pub mod clocks;
-mod ffi;
 pub mod gem;
 pub mod i2c;
 pub mod pll_seq;

@@ -1,7 +1,7 @@
 //! The whole PLL sequence, recorded over words that were read or will be. The original has no such call.
 use crate::pll_settings::PllConfig;
 use crate::pll_start::{BootPllConfig, PllType, plan};
-use crate::raw::{self, PllLog};
+use crate::raw;
 use crate::refusal::{Refusal, refused};
 
 /// Writes of a sequence that comes to its end; every other access is a read.
@@ -60,12 +60,8 @@ pub fn record(
 ) -> Result<Recorded, Refusal> {
     let most = reads.len() + WRITES;
     let [mut kinds, mut numbers, mut values] = [0; 3].map(|blank| vec![blank; most]);
-    let log = PllLog {
-        kinds: &mut kinds,
-        numbers: &mut numbers,
-        values: &mut values,
-    };
-    let ran = raw::pll_seq(plan(pll, boot, config, polls), reads, log);
+    let plan = plan(pll, boot, config, polls);
+    let ran = raw::pll_seq(plan, reads, &mut kinds, &mut numbers, &mut values);
     let end = match (ran.refusal, ran.end) {
         (0, 0) => End::Locked,
         (0, 1) => End::TimedOut,

@@ -189,12 +189,8 @@ impl Subject for PllSeq {
             let rows = std::cell::RefCell::new([[0; 12]; 3]);
             inputs.each(|n| {
                 let [kinds, numbers, values] = &mut *rows.borrow_mut();
-                let log = ogruspinu::raw::PllLog {
-                    kinds,
-                    numbers,
-                    values,
-                };
-                ogruspinu::raw::pll_seq(super::stepping::plan(n), &n[HEAD..], log).refusal
+                let plan = super::stepping::plan(n);
+                ogruspinu::raw::pll_seq(plan, &n[HEAD..], kinds, numbers, values).refusal
             })
         })
     }

@@ -2,7 +2,7 @@
 use super::pll_seq::HEAD;
 use crate::answer::{APART, Answer, CRAMPED, STARVED, STRAY};
 use crate::lent::{BLANK, blank};
-use ogruspinu::raw::{self, PllLog, PllPlan, PllRan, PllRun, PllStep};
+use ogruspinu::raw::{self, PllPlan, PllRan, PllRun, PllStep};
 
 /// Accesses of a sequence that are not reads.
 const WRITES: usize = 6;
@@ -47,12 +47,12 @@ type Rows = [Vec<u32>; 3];
 fn recorded_into(plan: PllPlan, reads: &[u32], room: [usize; 3]) -> (PllRan, Rows) {
     let mut rows = [0; 3].map(|_| vec![BLANK; reads.len() + WRITES + 1]);
     let [kinds, numbers, values] = &mut rows;
-    let log = PllLog {
-        kinds: &mut kinds[..room[0]],
-        numbers: &mut numbers[..room[1]],
-        values: &mut values[..room[2]],
-    };
-    (raw::pll_seq(plan, reads, log), rows)
+    let (kinds, numbers, values) = (
+        &mut kinds[..room[0]],
+        &mut numbers[..room[1]],
+        &mut values[..room[2]],
+    );
+    (raw::pll_seq(plan, reads, kinds, numbers, values), rows)
 }
 
 fn recorded(plan: PllPlan, reads: &[u32]) -> Answer {
