@@ -10,12 +10,16 @@ use Rattle.forms.specs.Says.{ROOM}
 use Rattle.desk.specs.Session.{NoNewline, Session}
 use Rattle.desk.specs.declared.block.Step.{Step}
 
-pub record Block (input : List ℕ) (from : ℕ) (swallowing : Bool) (before after : List ℕ) (step : Step) : Type 0 where
-  pub onward : from ≤ step .used
-  pub within : step .used ≤ length input
+-- from `from` up to `used` the input is a session, told with its two marks, whose texts were written
+pub record Through (input : List ℕ) (from : ℕ) (swallowing : Bool) (before after : List ℕ) (used written : ℕ) (swallows : Bool) : Type 0 where
+  pub onward : from ≤ used
+  pub within : used ≤ length input
   pub texts : List ℕ
-  pub session : Session swallowing (part input from (step .used)) texts (step .swallowing)
-  pub wrote : Wrote texts before 0 after (step .written)
+  pub session : Session swallowing (part input from used) texts swallows
+  pub wrote : Wrote texts before 0 after written
+
+pub record Block (input : List ℕ) (from : ℕ) (swallowing : Bool) (before after : List ℕ) (step : Step) : Type 0 where
+  pub through : Through input from swallowing before after (step .used) (step .written) (step .swallowing)
   -- it stops for want of room only
   pub if-full : step .full ≡ true → length before < step .written + ROOM
   -- or with a piece of a line left that can be kept
@@ -23,11 +27,7 @@ pub record Block (input : List ℕ) (from : ℕ) (swallowing : Bool) (before aft
 
 -- where only whole lines are answered
 pub record LinesOf (input : List ℕ) (from : ℕ) (before after : List ℕ) (step : Step) : Type 0 where
-  pub onward : from ≤ step .used
-  pub within : step .used ≤ length input
-  pub texts : List ℕ
-  pub session : Session false (part input from (step .used)) texts false
-  pub wrote : Wrote texts before 0 after (step .written)
+  pub through : Through input from false before after (step .used) (step .written) false
   pub fresh : step .swallowing ≡ false
   pub if-full : step .full ≡ true → length before < step .written + ROOM
   pub if-done : step .full ≡ false → NoNewline (part input (step .used) (length input))

@@ -39,57 +39,35 @@ one-text form one (Spoken.refuses x) (Spoken.refuses y) = ap (in-print form) (on
 abbrev Small : List ℕ → Type 0
 Small n = (i : ℕ) → nth n i < 2 ^ 32
 
-abbrev AllSingle : List CallRow → Type 0
-AllSingle [] = Unit {0}
-AllSingle (r ∷ rows) = ((n : List ℕ) → Small n → Single (r .tells n)) × AllSingle rows
+infixr 5 _and_
+data AllSingle : List CallRow → Type 1 where
+  none-left : AllSingle []
+  _and_ : {r : CallRow} {rows : List CallRow} → ((n : List ℕ) → Small n → Single (r .tells n)) → AllSingle rows → AllSingle (r ∷ rows)
 
 all-single : AllSingle called
-all-single = (
-  (λ n h. c-two-stage.one (nth n 0) (nth n 1) (nth n 2)),
-  (
-    (λ n h. one-number),
-    (
-      (λ n h. c-i2c.one (nth n 0) (isSet (nth n 1))),
-      (
-        (λ n h. one-number),
-        (
-          (λ n h. c-ttc.one (nth n 0) (nth n 1)),
-          (
-            (λ n h. c-pll-settings.one-target (nth n 0) (nth n 1)),
-            (
-              (λ n h. c-pll-settings.one-mul (nth n 0)),
-              (
-                (λ n h. c-uart.one (nth n 0) (nth n 1) (h 0) (h 1)),
-                (
-                  (λ n h. c-clock-setup.one-cpu (nth n 0) (isSet (nth n 1)) (nth n 2)),
-                  (
-                    (λ n h. c-clock-setup.one-ddr (nth n 0) (nth n 1) (nth n 2)),
-                    (
-                      (λ n h. c-clocks.one _ _),
-                      (
-                        (λ n h. one-gem _ _ _ _),
-                        tt,
-                      ),
-                    ),
-                  ),
-                ),
-              ),
-            ),
-          ),
-        ),
-      ),
-    ),
-  ),
-)
+all-single =
+    (λ n h. c-two-stage.one (nth n 0) (nth n 1) (nth n 2))
+    and (λ n h. one-number)
+    and (λ n h. c-i2c.one (nth n 0) (isSet (nth n 1)))
+    and (λ n h. one-number)
+    and (λ n h. c-ttc.one (nth n 0) (nth n 1))
+    and (λ n h. c-pll-settings.one-target (nth n 0) (nth n 1))
+    and (λ n h. c-pll-settings.one-mul (nth n 0))
+    and (λ n h. c-uart.one (nth n 0) (nth n 1) (h 0) (h 1))
+    and (λ n h. c-clock-setup.one-cpu (nth n 0) (isSet (nth n 1)) (nth n 2))
+    and (λ n h. c-clock-setup.one-ddr (nth n 0) (nth n 1) (nth n 2))
+    and (λ n h. c-clocks.one _ _)
+    and (λ n h. one-gem _ _ _ _)
+    and none-left
 
-single-at : (rows : List CallRow) → AllSingle rows → (k : ℕ) (n : List ℕ) → Small n → Single (getD rows k no-call .tells n)
-single-at [] all k n h = one-nothing
-single-at (r ∷ rows) all zero n h = all .0 n h
-single-at (r ∷ rows) all (suc k) n h = single-at rows (all .1) k n h
+single-at : {rows : List CallRow} → AllSingle rows → (k : ℕ) (n : List ℕ) → Small n → Single (getD rows k no-call .tells n)
+single-at none-left k n h = one-nothing
+single-at (one and all) zero n h = one n h
+single-at (one and all) (suc k) n h = single-at all k n h
 
 one-call : (r : Request) (k : ℕ) (n : List ℕ) {s t : List ℕ} → Small n → r ≡ request-of (call-row k) → r .says n s → r .says n t → s ≡ t
 one-call r k n {s} {t} h e x y =
-    one-text (bytes (call-row k .form)) (single-at called all-single k n h) (subst (λ (q : Request). q .says n s) e x) (subst (λ (q : Request). q .says n t) e y)
+    one-text (bytes (call-row k .form)) (single-at all-single k n h) (subst (λ (q : Request). q .says n s) e x) (subst (λ (q : Request). q .says n t) e y)
 
 one-says : (n : List ℕ) → Small n → (s t : List ℕ) (place : ℕ) → row place .says n s → row place .says n t → s ≡ t
 unfolding row
