@@ -1,5 +1,5 @@
 -- From the call at a place to what the dispatcher hands back. Assumes nothing.
-use Prim.Native.Nat.{ℕ, suc, _-_, _≤_}
+use Prim.Native.Nat.{ℕ, zero, suc, _-_, _≤_, zero-le}
 use mathlib.Core.Path.{_≡_, refl, sym, _∙_, subst⁻¹}
 use mathlib.Core.List.{List, [], _∷_, _++_}
 use native.Mathlib.Omega.{arith}
@@ -12,9 +12,17 @@ use Rattle.desk_calls.specs.Calls.{Call, calls, call-at, nothing, nothin
 pub at-place : {place : ℕ} (n : List ℕ) {before after : List ℕ} {r : ℕ} (k : ℕ) → 26 ≤ length before → place ≡ k → Given (call-at k n) before r after → Handed 26 (call-at place n) before r after
 at-place n {before} {after} {r} k h e g = kept h (subst⁻¹ (λ (p : ℕ). Given (call-at p n) before r after) e g)
 
--- the last arm: no place before it
-pub above : (k : ℕ) {i : ℕ} → k ≤ i → (i ≡ k → ⊥) → suc k ≤ i
+-- the last arm: the place is none of those before it
+abbrev NoneOf : Type 0 → ℕ → ℕ → Type 0
+NoneOf X place zero = X
+NoneOf X place (suc k) = NoneOf X place k × (place ≡ k → ⊥)
+
+above : (k : ℕ) {i : ℕ} → k ≤ i → (i ≡ k → ⊥) → suc k ≤ i
 above k h n = omega arith
+
+pub past-all : (X : Type 0) {place : ℕ} (k : ℕ) → NoneOf X place k → k ≤ place
+past-all X zero x = zero-le
+past-all X (suc k) (x, n) = above k (past-all X k x) n
 
 pub at-last : {place : ℕ} (n : List ℕ) {before : List ℕ} → 26 ≤ length before → length calls ≤ place → Handed 26 (call-at place n) before 0 before
 at-last {place} n {before} h past =

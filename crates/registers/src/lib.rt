@@ -26,8 +26,6 @@ pub const DDR_CLK_CTRL: usize = 9;
 
 pub const GEM_0_CLK_CTRL: usize = 16;
 
-pub const GEM_1_CLK_CTRL: usize = 17;
-
 pub const SMC_CLK_CTRL: usize = 18;
 
 pub const LQSPI_CLK_CTRL: usize = 19;
