@@ -1,5 +1,5 @@
-// The desk: requests on standard input, one a line, and an answer to each on standard output, in order. What is answered to a line stands in
-// `line`, and to the lines of a block in `block`; here bytes are read and written.
+// The desk: requests on standard input, one a line, and an answer to each on standard output, in order. What is answered to a line
+// stands in `line`, and to the lines of a block in `block`; here bytes are read and written.
 mod block;
 mod line;
 

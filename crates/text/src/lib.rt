@@ -1,5 +1,5 @@
-// Writing bytes, decimal numbers and eight hex digits into a lent buffer, in ASCII, and moving a piece to its front. Whatever the desk says goes
-// through here.
+// Writing bytes, decimal numbers and eight hex digits into a lent buffer, in ASCII, and moving a piece to its front. Whatever the desk
+// says goes through here.
 mod front;
 mod print;
 mod put;
