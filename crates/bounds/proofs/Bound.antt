@@ -1,16 +1,16 @@
 -- The two sides of a bound: a number is on one of them.
 use Prim.Native.Nat.{ℕ, _≤_, _<_}
-use mathlib.Core.Logic.{_⊎_, inl, inr}
 use native.Mathlib.Omega.{arith}
 use native.Mathlib.Decide.{decLe}
 use Rattle.bounds.specs.Within.{Within}
 
-pub side : (n most : ℕ) → (n ≤ most) ⊎ (most < n)
-side n most = by (decLe n most)
+-- what follows from two promises on either side follows from both of them
+pub both : {n most : ℕ} {Kept Past Kept₂ Past₂ R : Type 0} → (Kept → Kept₂ → R) → (Past → Past₂ → R) → Within n most Kept Past → Within n most Kept₂ Past₂ → R
+both {n} {most} {R = R} k p x y = by (decLe n most)
   where
-    by : Dec (n ≤ most) → (n ≤ most) ⊎ (most < n)
-    by (yes h) = inl h
-    by (no h) = inr (omega arith)
+    by : Dec (n ≤ most) → R
+    by (yes h) = k (x .fits h) (y .fits h)
+    by (no h) = let g : most < n = omega arith in p (x .full g) (y .full g)
 
 module _ {n most : ℕ} {Kept Past : Type 0} where
   pub kept : n ≤ most → Kept → Within n most Kept Past

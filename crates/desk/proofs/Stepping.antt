@@ -15,7 +15,7 @@ use Rattle.desk.specs.declared.line.Answered.the-variants as Answered
 use Rattle.desk.specs.Block.{Through, Block, LinesOf}
 use Rattle.desk.specs.Session.{NoNewline, Session}
 use Rattle.desk.specs.declared.block.Step.{Step}
-use Rattle.words.proofs.Parts.{no-part, side-by-side, with-next, none-before, length-part}
+use Rattle.words.proofs.Parts.{no-part, side-by-side, with-next, none-in-part, length-part}
 
 -- what answering a line came to, by its case
 is-written : {line before : List ℕ} {at : ℕ} {after : List ℕ} {next : ℕ} → LineAnswered line before at after (Answered.At next) → Writes (Line line) before at after next
@@ -65,7 +65,7 @@ module _ {input : List ℕ} {from : ℕ} {before out : List ℕ} {used written e
           onward = omega (arith, t .onward, l .until .begun);
           within = omega arith;
           texts = t .texts ++ w .text;
-          session = subst (λ (i : List ℕ). Session false i (t .texts ++ w .text) false) joined (Session.line (part input used end) (w .text) (t .session) (none-before (l .until)) (w .right));
+          session = subst (λ (i : List ℕ). Session false i (t .texts ++ w .text) false) joined (Session.line (part input used end) (w .text) (t .session) (none-in-part (l .until)) (w .right));
           wrote = then (t .wrote) (w .wrote);
         };
         until = u;
@@ -81,7 +81,7 @@ module _ {input : List ℕ} {from : ℕ} {before out : List ℕ} {used written e
 
   pub lines-done : length input ≤ end → LinesOf input from before out (record { used = used; written = written; swallowing = false; full = false })
   lines-done h =
-      record { through = l .through; fresh = refl; if-full = λ q. absurd (false≢true q); if-done = λ _. subst (λ (n : ℕ). NoNewline (part input used n)) at-end (none-before (l .until)) }
+      record { through = l .through; fresh = refl; if-full = λ q. absurd (false≢true q); if-done = λ _. subst (λ (n : ℕ). NoNewline (part input used n)) at-end (none-in-part (l .until)) }
     where
       at-end : end ≡ length input
       at-end = omega (arith, l .until .inside)
@@ -123,7 +123,7 @@ module _ {input : List ℕ} {from : ℕ} {before out : List ℕ} {step : Step} (
 pub swallow-all : {input : List ℕ} {from end : ℕ} (before : List ℕ) → Until input from 10 end → end ≡ length input → Block input from true before before (record { used = end; written = 0; swallowing = true; full = false })
 swallow-all {input} {from} {end} before u e =
     record {
-      through = record { onward = u .begun; within = u .inside; texts = []; session = Session.swallow (part input from end) Session.start (none-before u); wrote = nothing before 0 (omega arith) };
+      through = record { onward = u .begun; within = u .inside; texts = []; session = Session.swallow (part input from end) Session.start (none-in-part u); wrote = nothing before 0 (omega arith) };
       if-full = λ q. absurd (false≢true q);
       if-done = λ _. (omega (arith, e), subst⁻¹ NoNewline (ap (λ (n : ℕ). part input end n) (sym e) ∙ no-part input end) (λ k m. absurd (omega (arith, m))));
     }
@@ -144,7 +144,7 @@ swallow-line {input} {from} {end} {before} {after} {step} u h b =
         onward = omega (arith, u .begun, t .onward);
         within = t .within;
         texts = t .texts;
-        session = subst (λ (l : List ℕ). Session true l (t .texts) (step .swallowing)) whole (join (Session.swallowed (part input from end) Session.start (none-before u)) (t .session));
+        session = subst (λ (l : List ℕ). Session true l (t .texts) (step .swallowing)) whole (join (Session.swallowed (part input from end) Session.start (none-in-part u)) (t .session));
         wrote = t .wrote;
       };
       if-full = b .if-full;

@@ -8,7 +8,7 @@ use libc::STDIN_FILENO;
 use libc::STDOUT_FILENO;
 use line::Answered;
 use line::answer_line;
-use text::keep;
+use words::keep;
 ghost use Prim.Native.Nat.{_+_, _≤_};
 ghost use lib.ListN.{length};
 

@@ -1,10 +1,9 @@
 -- One law for every call: where its promise has one answer, one number and one row can be handed back. Assumes nothing.
 use Prim.Native.Nat.{ℕ, _≤_, _<_}
 use mathlib.Core.Path.{_≡_, sym, ap, _∙_}
-use mathlib.Core.Logic.{_⊎_, inl, inr}
 use mathlib.Core.List.{List, [], _∷_, _++_}
 use lib.ListN.{length, drop}
-use Rattle.bounds.proofs.Bound.{side}
+use Rattle.bounds.proofs.Bound.{both}
 use Rattle.refusals.specs.Told.{Told, answered, refused, InWords}
 use Rattle.handing.specs.Handed.{Given, Handed, coded}
 
@@ -28,22 +27,22 @@ row before (answered words) = words ++ drop (length words) before
 row before (refused n carried) = before
 
 module _ {Tells : Told (List ℕ) → Type 0} (one : Single Tells) (before : List ℕ) where
-  both : {t u : Told (List ℕ)} → t ≡ u → (coded t ≡ coded u) × (row before t ≡ row before u)
-  both e = (ap coded e, ap (row before) e)
+  same : {t u : Told (List ℕ)} → t ≡ u → (coded t ≡ coded u) × (row before t ≡ row before u)
+  same e = (ap coded e, ap (row before) e)
 
   pub one-given : {r q : ℕ} {a b : List ℕ} → Given Tells before r a → Given Tells before q b → (r ≡ q) × (a ≡ b)
-  one-given (Given.refusal _ x) (Given.refusal _ y) = both (one _ _ x y)
-  one-given (Given.refusal _ x) (Given.answer y) = both (one _ _ x y)
-  one-given (Given.answer x) (Given.refusal _ y) = both (one _ _ x y)
-  one-given (Given.answer x) (Given.answer y) = both (one _ _ x y)
+  one-given (Given.refusal _ x) (Given.refusal _ y) = same (one _ _ x y)
+  one-given (Given.refusal _ x) (Given.answer y) = same (one _ _ x y)
+  one-given (Given.answer x) (Given.refusal _ y) = same (one _ _ x y)
+  one-given (Given.answer x) (Given.answer y) = same (one _ _ x y)
 
 -- two results that are handed back for the same row are equal
 abbrev pub Settled : ℕ → (Told (List ℕ) → Type 0) → Type 0
 Settled room Tells = (before : List ℕ) (r q : ℕ) (a b : List ℕ) → Handed room Tells before r a → Handed room Tells before q b → (r ≡ q) × (a ≡ b)
 
+-- what a refusal promises by equations, one result and the row as it was, is settled
+pub alike : {r q : ℕ} {a b : List ℕ} {n : ℕ} {before : List ℕ} → (r ≡ n) × (a ≡ before) → (q ≡ n) × (b ≡ before) → (r ≡ q) × (a ≡ b)
+alike x y = (x .0 ∙ sym (y .0), x .1 ∙ sym (y .1))
+
 pub settled : {room : ℕ} {Tells : Told (List ℕ) → Type 0} → Single Tells → Settled room Tells
-settled {room} one before r q a b x y = by (side room (length before))
-  where
-    by : (room ≤ length before) ⊎ (length before < room) → (r ≡ q) × (a ≡ b)
-    by (inl k) = one-given one before (x .fits k) (y .fits k)
-    by (inr k) = (x .full k .0 ∙ sym (y .full k .0), x .full k .1 ∙ sym (y .full k .1))
+settled one before r q a b = both (one-given one before) alike

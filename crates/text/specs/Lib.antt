@@ -1,4 +1,3 @@
 pub mod Bytes
 pub mod Digits
-pub mod Moved
 pub mod Put

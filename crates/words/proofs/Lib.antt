@@ -1,4 +1,5 @@
 pub mod Choosing
+pub mod Keeping
 pub mod Nth
 pub mod Parts
 pub mod Reading

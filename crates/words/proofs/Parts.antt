@@ -39,8 +39,8 @@ with-next l a b h k e =
     at = omega arith
 
 -- up to the first place of a byte there is none
-pub none-before : {l : List ℕ} {a b byte : ℕ} → Until l a byte b → (k : ℕ) → k < length (part l a b) → getD (part l a b) k 0 ≡ byte → ⊥
-none-before {l} {a} {b} u k h e = u .none-before k short (sym (getD-drop a l k 0) ∙ sym (getD-take (b - a) (drop a l) k 0 short) ∙ e)
+pub none-in-part : {l : List ℕ} {a b byte : ℕ} → Until l a byte b → (k : ℕ) → k < length (part l a b) → getD (part l a b) k 0 ≡ byte → ⊥
+none-in-part {l} {a} {b} u k h e = u .none-before k short (sym (getD-drop a l k 0) ∙ sym (getD-take (b - a) (drop a l) k 0 short) ∙ e)
   where
     short : k < b - a
     short = omega (arith, h, length-take (b - a) (drop a l))

@@ -2,7 +2,7 @@
 use Prim.Native.Nat.{ℕ, _+_, _-_, _≤_, _<_}
 use mathlib.Core.Path.{_≡_}
 use mathlib.Core.Bool.{Bool, true, false, cond}
-use mathlib.Core.List.{List, [], _∷_}
+use mathlib.Core.List.{List, [], _∷_, _++_}
 use lib.Dec.{eqb, ltb}
 use lib.ListN.{length, getD, take, drop}
 use Rattle.words.specs.declared.split.Placed.{Placed}
@@ -31,6 +31,10 @@ pub record Until (line : List ℕ) (from byte end : ℕ) : Type 0 where
 -- the bytes from `from` up to `end`
 abbrev pub part : List ℕ → ℕ → ℕ → List ℕ
 part line from end = take (end - from) (drop from line)
+
+-- that part stands in front, as far as there is any, and behind it nothing has changed
+abbrev pub Moved : List ℕ → ℕ → ℕ → List ℕ → ℕ → Type 0
+Moved before from to after kept = (kept ≡ length (part before from to)) × (after ≡ part before from to ++ drop kept before)
 
 -- the word that begins at `from` ends before `end`, and the next begins one past that
 pub record Ends (line : List ℕ) (from end : ℕ) : Type 0 where

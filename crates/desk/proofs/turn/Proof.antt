@@ -4,7 +4,7 @@ use borrow.Author.Needs.{needs}
 use mathlib.Core.Path.{sym}
 use native.Mathlib.Omega.{arith}
 use lib.Seq.{length-take-le}
-use Rattle.text.proofs.Keeping.{kept-within}
+use Rattle.words.proofs.Keeping.{kept-within}
 use Rattle.desk.proofs.turn.Statement.{statement}
 use Rattle.desk.proofs.turn.Tie as tie
 
