@@ -30,7 +30,7 @@ extern "C" {
 enum ogr_refusal {
     OGR_BAD_IMAGE = 1,     /* the image is not OGR_IMAGE_WORDS long */
     OGR_DIVISOR_ZERO = 2,  /* a checked divisor field is 0; carries its ogr_module */
-    OGR_OVERFLOW = 3,      /* crystal times FDIV does not fit 32 bits; carries OGR_MODULE_PLL */
+    OGR_OVERFLOW = 3,      /* crystal times FDIV of a PLL that is not bypassed does not fit 32 bits; carries OGR_MODULE_PLL */
     OGR_ZERO_INPUT = 4,    /* crystal 0 in a PLL setting by target */
     OGR_MUL_RANGE = 5,     /* the multiplier is not one of 13 to 66; carries it */
     OGR_ZERO_TARGET = 6,   /* the target is 0 */
@@ -318,10 +318,12 @@ uint64_t ogr_uart_list(uint32_t reference, uint32_t baud, struct ogr_baud_diviso
 /* ---- Clocks ---- */
 
 /*
- * Every clock that an image of the SLCR's clock registers gives.
+ * Every clock that an image of the SLCR's clock registers gives. A PLL gives the crystal times its FDIV, or the crystal itself where it
+ * is bypassed: where bit 4 of its control word is 1, whatever the other bits are.
  * out: OGR_CLOCK_WORDS words, as ogr_clock orders them.
  * Refusals: OGR_NO_ROOM (OGR_CLOCK_WORDS); OGR_BAD_IMAGE; OGR_DIVISOR_ZERO with OGR_MODULE_PLL; OGR_OVERFLOW; OGR_DIVISOR_ZERO with the
- * first module of Arm, Ddr, Smc, Qspi, Sdio, Uart, Spi, Pcap, Can, Trace, Fpga that has a divisor 0. Trace's is checked under EMIO too.
+ * first module of Arm, Ddr, Smc, Qspi, Sdio, Uart, Spi, Pcap, Can, Trace, Fpga that has a divisor 0. An FDIV is checked under bypass too,
+ * and Trace's divisor under EMIO.
  */
 uint64_t ogr_clocks(uint32_t crystal, const uint32_t *image, size_t image_len, uint32_t *out, size_t out_len);
 

@@ -162,6 +162,32 @@ static void clocks(void)
     REFUSES(ogr_clocks(33818641, image, 50, row, 26), 3, 0);
 }
 
+/* Bit 4 of a PLL's word bypasses it, and it alone: the crystal comes out, and no crystal is too large. FDIV 0 is refused all the same. */
+static void bypassed_plls(void)
+{
+    uint32_t clocks[OGR_CLOCK_WORDS];
+    plain_image();
+    image[0] = 2 << 12 | 0x0B;
+    image[1] = 3 << 12 | 0x10;
+    image[2] = 5 << 12;
+    ANSWERS(ogr_clocks(100, image, 50, row, 26), 200, 500, 100, 200, 0, 50, 100, 100, 200, 100, 100, 100, 500,
+            500, 500, 500, 500, 500, 500, 500, 500, 0, 500, 500, 500, 500);
+    GIVES(ogr_clocks(100, image, 50, clocks, OGR_CLOCK_WORDS), 0);
+    ANSWERS(ogr_gem(false, 0x00100130, clocks, OGR_CLOCK_WORDS, row, 1), 100);
+    for (size_t pll = 0; pll < 3; pll++) {
+        plain_image();
+        image[pll] = 127 << 12;
+        REFUSES(ogr_clocks(UINT32_MAX, image, 50, row, 26), 3, 0);
+        image[pll] |= 0x10;
+        GIVES(ogr_clocks(UINT32_MAX, image, 50, row, 26), 0);
+        GIVES(row[OGR_CLOCK_ARM_PLL], UINT32_MAX);
+        GIVES(row[OGR_CLOCK_IO_PLL], UINT32_MAX);
+        GIVES(row[OGR_CLOCK_DDR_PLL], UINT32_MAX);
+        image[pll] = 0x10;
+        REFUSES(ogr_clocks(1000, image, 50, row, 26), 2, OGR_MODULE_PLL);
+    }
+}
+
 /* Zeros come in from the last checked field to the first, and each one takes the blame from those after it. */
 static void zero_divisors(void)
 {
@@ -244,7 +270,7 @@ int main(void)
 {
     void (*const all[])(void) = {two_stage, i2c, ttc, pll_settings, pll_seq_locks, pll_seq_does_not_lock,
                                  pll_seq_is_not_started, pll_steps, pll_steps_time_out, pll_steps_from_no_run, pll_steps_from_forged_runs,
-                                 pll_starts_once, pll_starts_unchecked, uart, uart_list, clocks, zero_divisors, gem, io_update, set_up};
+                                 pll_starts_once, pll_starts_unchecked, uart, uart_list, clocks, bypassed_plls, zero_divisors, gem, io_update, set_up};
     for (size_t i = 0; i < sizeof all / sizeof *all; i++)
         all[i]();
     printf("calls.c: %d checks, %d failed\n", checks, failures);

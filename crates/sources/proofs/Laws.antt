@@ -1,20 +1,22 @@
 -- The laws by which a clock word is read. Assumes nothing.
-use mathlib.Core.Path.{_≡_, _∙_, sym, ap, ap₂}
+use mathlib.Core.Path.{_≡_, _∙_, refl, sym, ap, ap₂}
+use mathlib.Core.Bool.{Bool, true, false, cond}
 use mathlib.Core.List.{List}
 use Prim.Native.Nat.{ℕ, _*_, _/_, _^_, _<_, _≤_}
 use native.Mathlib.Nat.{div-div-eq-div-mul, le-of-lt, lt-of-le-of-lt, mul-le-mul-left, mul-lt-mul-of-pos-right, zero-mul}
 use native.Mathlib.Decide.{decLe}
 use native.Mathlib.Omega.{arith}
+use borrow.Author.Tests.{eq-eqb, ne-eqb}
 use lib.ListN.{length, List·getD-eq-default}
 use lib.Pow.{pow-pos}
 use Rattle.fields.specs.Word.{read-field}
 use Rattle.registers.specs.declared.PllType.{PllType}
-use Rattle.registers.specs.Fields.{DIVISOR, FDIV}
+use Rattle.registers.specs.Fields.{BYPASS-FORCE, DIVISOR, FDIV}
 use Rattle.sources.specs.declared.PllOutputs.{PllOutputs}
 use Rattle.sources.specs.declared.TraceClk.the-variants as clk
 use Rattle.sources.specs.declared.TraceSource.{TraceSource}
 use Rattle.sources.specs.declared.TraceSource.the-variants.{From, Emio}
-use Rattle.sources.specs.Source.{by-code, output-of, pll-output, trace-source}
+use Rattle.sources.specs.Source.{by-code, bypassed, output-of, pll-output, trace-source}
 use Rattle.sources.specs.Clock.{trace-clk, trace-from}
 
 -- the arms of a match on a field that was read as r, and whose codes specs/ has in a row
@@ -31,10 +33,24 @@ module _ {A : Type 0} (row : List A) (further : A) {r n : ℕ} (e : r ≡ n) whe
   pub code-further : length row ≤ r → further ≡ by-code row further n
   code-further h = sym (List·getD-eq-default row further (rw (← e) h))
 
--- without a crystal no PLL gives anything
+-- what a PLL gives, by its force bit
+module _ (crystal control : ℕ) where
+  pub passed-on : read-field control BYPASS-FORCE ≡ 1 → pll-output crystal control ≡ crystal
+  unfolding pll-output
+  passed-on e = rw (eq-eqb _ _ e)
+
+  pub multiplied : (read-field control BYPASS-FORCE ≡ 1 → ⊥) → pll-output crystal control ≡ crystal * read-field control FDIV
+  unfolding pll-output
+  multiplied n = rw (ne-eqb _ _ n)
+
+-- without a crystal no PLL gives anything, bypassed or not
 pub no-crystal : (control : ℕ) → pll-output 0 control ≡ 0
 unfolding pll-output
-no-crystal control = zero-mul (read-field control FDIV)
+no-crystal control = either (bypassed control)
+  where
+    either : (b : Bool) → cond b 0 (0 * read-field control FDIV) ≡ 0
+    either true = refl
+    either false = zero-mul (read-field control FDIV)
 
 -- the product of two numbers of 32 bits has at most 64
 pub wide : {a b : ℕ} → a < 2 ^ 32 → b < 2 ^ 32 → a * b < 2 ^ 64

@@ -1,18 +1,24 @@
--- A PLL's output, and the PLL that a clock word selects: document 01, "The image and its fields" and "Evaluation".
+-- A PLL's output, and the PLL that a clock word selects: document 01, "The image and its fields" and "Evaluation", with W-205.
 use Prim.Native.Nat.{ℕ, _*_}
+use mathlib.Core.Bool.{Bool, cond}
 use mathlib.Core.List.{List, [], _∷_}
+use lib.Dec.{eqb}
 use lib.ListN.{getD}
 use Rattle.fields.specs.Word.{read-field}
 use Rattle.registers.specs.declared.PllType.{PllType}
 use Rattle.registers.specs.declared.PllType.the-variants.{Arm, Ddr, Io}
-use Rattle.registers.specs.Fields.{FDIV, SOURCE, TRACE-SOURCE}
+use Rattle.registers.specs.Fields.{BYPASS-FORCE, FDIV, SOURCE, TRACE-SOURCE}
 use Rattle.sources.specs.declared.PllOutputs.{PllOutputs}
 use Rattle.sources.specs.declared.TraceSource.{TraceSource}
 use Rattle.sources.specs.declared.TraceSource.the-variants.{From, Emio}
 
+-- a PLL is bypassed by the force bit alone: qualifier, reset and power-down change nothing
+abbrev pub bypassed : ℕ → Bool
+bypassed control = eqb (read-field control BYPASS-FORCE) 1
+
 -- what a PLL gives, for the crystal and its control word: the one place that says so
 unfoldable pub pll-output : ℕ → ℕ → ℕ
-pll-output crystal control = crystal * read-field control FDIV
+pll-output crystal control = cond (bypassed control) crystal (crystal * read-field control FDIV)
 
 abbrev pub output-of : PllOutputs → PllType → ℕ
 output-of out Arm = out .«arm_pll_out»

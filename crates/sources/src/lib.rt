@@ -1,5 +1,6 @@
 // Where a clock comes from: a PLL's output, the PLL that a clock word selects, and the clock that the word makes of them.
 use fields::read_field;
+use registers::BYPASS_FORCE;
 use registers::DIVISOR;
 use registers::DIVISOR_1;
 use registers::FDIV;
@@ -30,10 +31,13 @@ pub enum TraceClk {
     Emio,
 }
 
-// The crystal times FDIV, which can pass 32 bits.
+// The crystal where the PLL is bypassed, else the crystal times FDIV, which can pass 32 bits.
 pub fn pll_output(crystal: u32, control: u32) -> u64
     ensures { λ r. ⌜ r ≡ pll-output crystal control ⌝ }
 {
+    if read_field(control, BYPASS_FORCE) == 1 {
+        return crystal as u64;
+    }
     (crystal as u64) * (read_field(control, FDIV) as u64)
 }
 

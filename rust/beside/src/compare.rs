@@ -30,29 +30,35 @@ pub struct Plan {
 #[derive(Clone, Copy, Default)]
 pub struct Tally {
     pub rust: usize,
+    pub instead: usize,
     pub rule: usize,
 }
 
 impl AddAssign for Tally {
     fn add_assign(&mut self, other: Self) {
         self.rust += other.rust;
+        self.instead += other.instead;
         self.rule += other.rule;
     }
 }
 
 impl Display for Tally {
     fn fmt(&self, f: &mut Formatter<'_>) -> fmt::Result {
-        match (self.rust, self.rule) {
-            (0, rule) => write!(
+        if self.rust == 0 {
+            let rule = self.rule;
+            return write!(
                 f,
-                "{rule:>9} equal to document 01; the Rust has no such call"
-            ),
-            (rust, 0) => write!(f, "{rust:>9} equal to the Rust"),
-            (rust, rule) => write!(
-                f,
-                "{rust:>9} equal to the Rust, {rule} to document 01 where the Rust has no answer"
-            ),
+                "{rule:>9} equal to the documents; the Rust has no such call"
+            );
         }
+        write!(f, "{:>9} equal to the Rust", self.rust)?;
+        if self.instead > 0 {
+            write!(f, ", {} to what it answers in their place", self.instead)?;
+        }
+        if self.rule > 0 {
+            write!(f, ", {} to the documents where it has no answer", self.rule)?;
+        }
+        Ok(())
     }
 }
 
@@ -147,6 +153,7 @@ impl Work<'_> {
         let (right, by) = self.subject.judged(request);
         match by {
             By::Rust => tally.rust += 1,
+            By::Instead => tally.instead += 1,
             By::Rule => tally.rule += 1,
         }
         right == (self.ours)(request)

@@ -14,9 +14,16 @@ const SEED: u64 = 7000;
 /// Edges begin with the cases that document 01 and the people who use it name; so many always stand.
 const NAMED: usize = 48;
 
-/// Writes `NAME.requests` and `NAME.answers` for each subject that the desk's list has; gives the names and how many lines
-/// each has.
-pub fn write(folder: &Path) -> io::Result<Vec<(&'static str, usize)>> {
+/// What was written of a subject.
+pub struct Written {
+    pub name: &'static str,
+    pub lines: usize,
+    /// How many of these are the original's answer to another request, asked in the line's place.
+    pub instead: usize,
+}
+
+/// Writes `NAME.requests` and `NAME.answers` for each subject that the desk's list has.
+pub fn write(folder: &Path) -> io::Result<Vec<Written>> {
     fs::create_dir_all(folder)?;
     let mut written = Vec::new();
     for &subject in SUBJECTS {
@@ -36,7 +43,14 @@ pub fn write(folder: &Path) -> io::Result<Vec<(&'static str, usize)>> {
             folder.join(format!("{name}.answers")),
             answered.collect::<String>(),
         )?;
-        written.push((name, requests.len()));
+        let lines = requests.len();
+        let instead = |n: &&Numbers| subject.judged(n).1 == By::Instead;
+        let instead = requests.iter().filter(instead).count();
+        written.push(Written {
+            name,
+            lines,
+            instead,
+        });
     }
     Ok(written)
 }
@@ -70,5 +84,5 @@ fn thinned(
 
 /// Only the original speaks.
 fn on_list(subject: &dyn Subject, n: &[u32]) -> bool {
-    subject.on_list(n) && subject.judged(n).1 == By::Rust
+    subject.on_list(n) && subject.judged(n).1 != By::Rule
 }

@@ -78,8 +78,12 @@ fn compared(subjects: &[&'static dyn Subject], plan: Plan, ours: Ours) -> bool {
 
 fn written(folder: &str) -> Result<bool, String> {
     let done = lists::write(folder.as_ref()).map_err(|why| format!("{folder}: {why}"))?;
-    for (name, lines) in done {
-        println!("{name}: {lines} requests");
+    for list in done {
+        print!("{}: {} requests", list.name, list.lines);
+        match list.instead {
+            0 => println!(),
+            some => println!(", {some} of which the Rust was asked as another"),
+        }
     }
     Ok(true)
 }

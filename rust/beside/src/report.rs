@@ -5,7 +5,8 @@ use crate::subject::By;
 pub fn difference(found: &Difference) -> String {
     let judge = match found.by {
         By::Rust => "the Rust",
-        By::Rule => "document 01",
+        By::Instead => "the Rust, asked what stands for it",
+        By::Rule => "the documents",
     };
     let line = |answer| found.subject.line(answer);
     let (mut right, mut ours) = (line(&found.right), line(&found.ours));

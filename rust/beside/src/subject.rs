@@ -19,6 +19,8 @@ pub struct About {
 #[derive(Clone, Copy, Debug, PartialEq, Eq)]
 pub enum By {
     Rust,
+    /// The original, asked another request in this one's place.
+    Instead,
     Rule,
 }
 
@@ -63,16 +65,25 @@ pub trait Subject: Sync {
         true
     }
 
-    /// Document 01's answer where the original has none.
+    /// The documents' answer where the original has none.
     fn ruled(&self, n: &[u32]) -> Option<Answer>;
+
+    /// What the original is asked in place of what is not ruled, where document 02 changes its answer: the request whose
+    /// answer, as the original gives it, is the right one here.
+    fn instead(&self, _n: &[u32]) -> Option<Numbers> {
+        None
+    }
 
     /// The original's answer to what is not ruled.
     fn original(&self, n: &[u32]) -> Answer;
 
-    /// The right answer: the original's wherever it has one, and document 01's alone outside the differential domain.
+    /// The right answer: the original's wherever it has one, and the documents' alone outside the differential domain.
     fn judged(&self, n: &[u32]) -> (Answer, By) {
-        match self.ruled(n) {
-            Some(answer) => (answer, By::Rule),
+        if let Some(answer) = self.ruled(n) {
+            return (answer, By::Rule);
+        }
+        match self.instead(n) {
+            Some(other) => (self.original(&other), By::Instead),
             None => (self.original(n), By::Rust),
         }
     }

@@ -21,7 +21,7 @@ pub enum Refusal {
     BadImage,
     /// 2: a checked divisor field of this module is 0.
     DivisorZero(ClockModuleId),
-    /// 3: crystal times FDIV does not fit into 32 bits; the module is always the PLLs'.
+    /// 3: crystal times FDIV of a PLL that is not bypassed does not fit into 32 bits; the module is always the PLLs'.
     Overflow(ClockModuleId),
     /// 4: crystal 0 in a PLL setting by target.
     ZeroInput,
@@ -137,7 +137,10 @@ impl Display for Refusal {
         match self {
             Self::BadImage => write!(f, "the image is not 50 words"),
             Self::DivisorZero(module) => write!(f, "a divisor of {module:?} is 0"),
-            Self::Overflow(_) => write!(f, "crystal times FDIV does not fit into 32 bits"),
+            Self::Overflow(_) => write!(
+                f,
+                "crystal times FDIV of a PLL that is not bypassed does not fit into 32 bits"
+            ),
             Self::ZeroInput => write!(f, "the crystal is 0"),
             Self::MulRange(by) => write!(f, "the multiplier {by} is not one of 13 to 66"),
             Self::ZeroTarget => write!(f, "the target is 0"),

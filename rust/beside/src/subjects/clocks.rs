@@ -1,5 +1,6 @@
 //! The evaluation of an image: crystal, the image's words. It gives 26 numbers: the desk's 25, and behind the trace clock
 //! whether it is EMIO's.
+use super::bypass::{self, FORCE, bypassed, multiplier};
 use super::image;
 use crate::answer::Answer;
 use crate::bench::Timed;
@@ -10,12 +11,17 @@ use original::EMIO;
 
 pub struct Clocks;
 
+/// The right answer to an image with its PLLs changed.
+fn after(n: &[u32], change: fn(u32) -> u32) -> Answer {
+    Clocks.judged(&bypass::with_controls(n, 0, change)).0
+}
+
 impl Subject for Clocks {
     fn about(&self) -> About {
         About {
             name: "clocks",
             stream: 9,
-            list: Some([usize::MAX, 800, 1_200]),
+            list: Some([800, 800, 1_200]),
         }
     }
 
@@ -33,6 +39,10 @@ impl Subject for Clocks {
 
     fn ruled(&self, n: &[u32]) -> Option<Answer> {
         image::ruled(n)
+    }
+
+    fn instead(&self, n: &[u32]) -> Option<Numbers> {
+        bypass::instead(n, 0)
     }
 
     fn original(&self, n: &[u32]) -> Answer {
@@ -69,6 +79,29 @@ impl Subject for Clocks {
                     answer.carried = 3 - answer.carried;
                 }
                 answer
+            }),
+            Fault("QualifierBypasses", |n| {
+                after(n, |control| {
+                    control & !0x18 | (control & 8) << 1 | (control & 16) >> 1
+                })
+            }),
+            Fault("BypassExcusesFdivZero", |n| {
+                after(n, |control| {
+                    match (bypassed(control), multiplier(control)) {
+                        (true, 0) => control | 1 << 12,
+                        _ => control,
+                    }
+                })
+            }),
+            Fault("OverflowThoughBypassed", |n| {
+                let multiplied = bypass::with_controls(n, 0, |control| control & !FORCE);
+                image::ruled(&multiplied).unwrap_or_else(|| Clocks.judged(n).0)
+            }),
+            Fault("EveryPllGivesTheCrystal", |n| {
+                after(n, |control| control | FORCE)
+            }),
+            Fault("BypassOfNoAccount", |n| {
+                after(n, |control| control & !FORCE)
             }),
         ]
     }

@@ -1,5 +1,5 @@
 //! The reference clock of an Ethernet controller: 0 or 1, crystal, the image's words.
-use super::image;
+use super::{bypass, image};
 use crate::answer::Answer;
 use crate::bench::Timed;
 use crate::generate::{Numbers, after, grid};
@@ -36,6 +36,10 @@ impl Subject for Gem {
         image::ruled(&n[1..])
     }
 
+    fn instead(&self, n: &[u32]) -> Option<Numbers> {
+        bypass::instead(n, 1)
+    }
+
     fn original(&self, n: &[u32]) -> Answer {
         let clock = original::gem(n[0] == 1, n[1], image::words(&n[2..]));
         image::evaluated(clock.map(|clock| [clock]))
@@ -47,10 +51,18 @@ impl Subject for Gem {
     }
 
     fn faults(&self) -> Vec<Fault> {
-        vec![Fault("GemStopsUnderEmio", |n| match n.get(WORD) {
-            Some(word) if word & 0x40 != 0 => Answer::given([0]),
-            _ => Gem.judged(n).0,
-        })]
+        vec![
+            Fault("GemStopsUnderEmio", |n| match n.get(WORD) {
+                Some(word) if word & 0x40 != 0 => Answer::given([0]),
+                _ => Gem.judged(n).0,
+            }),
+            Fault("GemKnowsNoBypass", |n| {
+                Gem.judged(&bypass::with_controls(n, 1, |control| {
+                    control & !bypass::FORCE
+                }))
+                .0
+            }),
+        ]
     }
 
     fn request(&self, n: &[u32]) -> String {

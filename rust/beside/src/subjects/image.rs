@@ -1,11 +1,15 @@
 //! For the subjects of an image: a crystal and the image's words, with every field at its limits.
+use super::bypass::{bypassed, every_way, multiplier, small as bypassed_small};
 use crate::answer::Answer;
 use crate::generate::Numbers;
 use crate::rng::Rng;
 use original::WORDS;
 
 /// A field of an image: its word, lowest bit and width.
-type Place = (usize, u32, u32);
+pub type Place = (usize, u32, u32);
+
+/// The multipliers of the ARM, DDR and IO PLLs.
+pub const FDIV: [Place; 3] = [(0, 12, 7), (1, 12, 7), (2, 12, 7)];
 
 /// Every divisor and multiplier that evaluation checks, in document 01's order of checks, then GEM's.
 const CHECKED: [Place; 27] = [
@@ -37,8 +41,8 @@ const CHECKED: [Place; 27] = [
     (17, 8, 6),
     (17, 20, 6),
 ];
-/// Every field that selects something, and bits that nothing may follow: GEM's EMIO, bypass, status.
-const SELECTING: [Place; 18] = [
+/// Every field that selects something, the low bits of the PLLs, and bits that nothing may follow: GEM's EMIO, status.
+const SELECTING: [Place; 20] = [
     (8, 4, 2),
     (18, 4, 2),
     (19, 4, 2),
@@ -55,7 +59,9 @@ const SELECTING: [Place; 18] = [
     (49, 0, 1),
     (16, 4, 3),
     (17, 4, 3),
-    (0, 4, 1),
+    (0, 0, 5),
+    (1, 0, 5),
+    (2, 0, 5),
     (3, 0, 3),
 ];
 
@@ -99,7 +105,7 @@ pub fn typical_emio() -> Numbers {
     changed(&typical(), (25, 4, 3), 5)
 }
 
-fn changed(numbers: &[u32], (word, lowest, width): Place, value: u32) -> Numbers {
+pub fn changed(numbers: &[u32], (word, lowest, width): Place, value: u32) -> Numbers {
     let mut numbers = numbers.to_vec();
     let mask = ((1 << width) - 1) << lowest;
     let word = &mut numbers[1 + word];
@@ -107,14 +113,15 @@ fn changed(numbers: &[u32], (word, lowest, width): Place, value: u32) -> Numbers
     numbers
 }
 
-/// Every single field of the typical image at each of its values.
+/// Every single field of the typical image at each of its values, and each multiplier with any PLLs bypassed.
 pub fn small() -> Vec<Numbers> {
     let base = typical();
     let values = |&place: &Place| {
         let base = &base;
         (0..1 << place.2).map(move |value| changed(base, place, value))
     };
-    CHECKED.iter().chain(&SELECTING).flat_map(values).collect()
+    let fields = CHECKED.iter().chain(&SELECTING).flat_map(values);
+    fields.chain(bypassed_small(&base)).collect()
 }
 
 pub fn edges() -> Vec<Numbers> {
@@ -127,23 +134,31 @@ pub fn edges() -> Vec<Numbers> {
             all.push(changed(&changed(&base, first, 0), second, 0));
         }
     }
-    // The largest crystal whose product fits, and one more; then with a zero somewhere as well.
-    for fdiv in [1, 2, 3, 40, 63, 64, 126, 127] {
-        for pll in 0..3 {
-            for crystal in [u32::MAX / fdiv, (u32::MAX / fdiv).wrapping_add(1)] {
-                let ones = (0..3).fold(base.clone(), |n, pll| changed(&n, (pll, 12, 7), 1));
-                let mut numbers = changed(&ones, (pll, 12, 7), fdiv);
-                numbers[0] = crystal;
-                all.push(changed(&numbers, (8, 8, 6), 0));
-                all.push(changed(&numbers, ((pll + 1) % 3, 12, 7), 0));
-                all.push(numbers);
-            }
-        }
+    for numbers in at_the_limit(&base) {
+        all.extend(every_way(&numbers));
     }
     let mut dark = base.clone();
     dark[0] = 0;
     // An image one word short or long is refused before anything else.
     all.extend([dark, base[..WORDS].to_vec(), [&base[..], &[0]].concat()]);
+    all
+}
+
+/// The largest crystal whose product fits, and one more; then with a zero somewhere as well.
+fn at_the_limit(base: &[u32]) -> Vec<Numbers> {
+    let ones = FDIV.iter().fold(base.to_vec(), |n, &at| changed(&n, at, 1));
+    let mut all = Vec::new();
+    for fdiv in [1, 2, 3, 40, 63, 64, 126, 127] {
+        for pll in 0..3 {
+            for crystal in [u32::MAX / fdiv, (u32::MAX / fdiv).wrapping_add(1)] {
+                let mut numbers = changed(&ones, FDIV[pll], fdiv);
+                numbers[0] = crystal;
+                all.push(changed(&numbers, (8, 8, 6), 0));
+                all.push(changed(&numbers, FDIV[(pll + 1) % 3], 0));
+                all.push(numbers);
+            }
+        }
+    }
     all
 }
 
@@ -167,21 +182,24 @@ pub fn random(rng: &Rng) -> Numbers {
     }
     numbers[0] = match rng.below(8) {
         0 => rng.magnitude(32),
-        1 => rng.near(u32::MAX / rng.within(1, 127)),
+        // The product of one of the image's own PLLs at the limit.
+        1 => rng.near(u32::MAX / multiplier(numbers[1 + rng.below(3) as usize]).max(1)),
         _ => rng.magnitude(25),
     };
     numbers
 }
 
-/// Document 01's refusals of a crystal and an image that the original has not.
+/// The refusals of a crystal and an image that the original has not.
 pub fn ruled(n: &[u32]) -> Option<Answer> {
     let (crystal, words) = (n[0], &n[1..]);
     if words.len() != WORDS {
         return Some(Answer::refused(1));
     }
-    let multipliers = [words[0], words[1], words[2]].map(|control| control >> 12 & 127);
-    let fits = |&by: &u32| crystal.checked_mul(by).is_some();
-    let refused = !multipliers.contains(&0) && !multipliers.iter().all(fits);
+    let controls = &words[..3];
+    let dark = |&control: &u32| multiplier(control) == 0;
+    let fits =
+        |&control: &u32| bypassed(control) || crystal.checked_mul(multiplier(control)).is_some();
+    let refused = !controls.iter().any(dark) && !controls.iter().all(fits);
     refused.then(|| Answer::carrying(3, 0))
 }
 

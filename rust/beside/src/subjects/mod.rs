@@ -1,4 +1,5 @@
 //! The subjects, a file each. A new one is its file and its two lines here.
+mod bypass;
 mod clocks;
 mod cpu_init;
 mod ddr_init;

@@ -1,7 +1,7 @@
 //! The update of an IO clock in an evaluated record: which, its new Hertz, crystal, the image's words. It gives the whole
 //! record.
 use super::clocks::Clocks;
-use super::image;
+use super::{bypass, image};
 use crate::answer::Answer;
 use crate::bench::Timed;
 use crate::generate::{Numbers, after, grid};
@@ -36,6 +36,10 @@ impl Subject for Update {
 
     fn ruled(&self, n: &[u32]) -> Option<Answer> {
         image::ruled(&n[2..])
+    }
+
+    fn instead(&self, n: &[u32]) -> Option<Numbers> {
+        bypass::instead(n, 2)
     }
 
     fn original(&self, n: &[u32]) -> Answer {

@@ -47,7 +47,8 @@ pub struct Clocks {
 }
 
 impl Clocks {
-    /// Evaluates an image, where the original reads the registers themselves.
+    /// Evaluates an image, where the original reads the registers themselves. A PLL gives the crystal times FDIV, or the
+    /// crystal itself where it is bypassed: where bit 4 of its control word is 1. The original knows no bypass.
     ///
     /// Refusals: [`Refusal::BadImage`]; [`Refusal::DivisorZero`] of the PLLs; [`Refusal::Overflow`];
     /// [`Refusal::DivisorZero`] of the first module in the order Arm, Ddr, Smc, Qspi, Sdio, Uart, Spi, Pcap, Can,
@@ -60,6 +61,18 @@ impl Clocks {
     /// assert_eq!(Clocks::new_from_regs(crystal, &[0; 49]), Err(Refusal::BadImage));
     /// let dark = Clocks::new_from_regs(crystal, &[0; 50]);
     /// assert_eq!(dark, Err(Refusal::DivisorZero(ClockModuleId::Pll)));
+    /// ```
+    ///
+    /// The same image with the IO PLL at 30 times the crystal, then bypassed:
+    ///
+    /// ```
+    #[doc = include_str!("plain_image.txt")]
+    /// let crystal = Hertz::from_raw(33_333_333);
+    /// image[2] = 30 << 12;
+    /// assert_eq!(Clocks::new_from_regs(crystal, &image)?.io_pll_out().to_raw(), 999_999_990);
+    /// image[2] |= 1 << 4;
+    /// assert_eq!(Clocks::new_from_regs(crystal, &image)?.io_pll_out(), crystal);
+    /// # Ok::<(), Refusal>(())
     /// ```
     #[inline]
     pub fn new_from_regs(ps_clk_freq: Hertz, image: &[u32]) -> Result<Self, Refusal> {
