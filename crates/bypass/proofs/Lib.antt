@@ -1,2 +1,3 @@
+mod InTurn
 pub mod Locked
 pub mod Refusals

@@ -4,9 +4,8 @@ use mathlib.Core.Path.{_≡_, _∙_, refl, sym, ap}
 use mathlib.Core.Bool.{Bool, true, false, cond}
 use mathlib.Core.List.{List, [], _∷_, _++_}
 use native.Mathlib.Omega.{arith}
-use lib.Dec.{eqb}
-use lib.ListN.{take, length}
-use Rattle.refusals.specs.Told.{Told, answered, refused}
+use lib.ListN.{take}
+use Rattle.refusals.specs.Told.{answered}
 use Rattle.fields.specs.declared.Field.{Field}
 use Rattle.fields.specs.Word.{read-field, set-field}
 use Rattle.fields.proofs.Laws.{read-set-fits}
@@ -14,19 +13,20 @@ use Rattle.registers.specs.declared.PllType.{PllType}
 use Rattle.registers.specs.declared.PllType.the-variants.{Arm, Ddr, Io}
 use Rattle.registers.specs.Fields.{BYPASS-FORCE, FDIV}
 use Rattle.registers.specs.Plls.{pll-ctrl}
-use Rattle.registers.specs.Words.{word, WORDS}
+use Rattle.registers.specs.Words.{word}
 use Rattle.sources.specs.Source.{output-of, pll-output}
 use Rattle.sources.proofs.Laws.{multiplied}
 use Rattle.clocks.specs.declared.Clocks.{Clocks}
 use Rattle.checks.specs.declared.Reason.{Reason}
 use Rattle.checks.specs.declared.Reason.the-variants.{Nothing, Broken}
 use Rattle.checks.specs.Check.{reason}
-use Rattle.evaluation.specs.Evaluated.{evaluated, judged, pick-told}
+use Rattle.evaluation.specs.Evaluated.{evaluated, judged}
 use Rattle.evaluation.specs.Formulas.{clocks-of}
 use Rattle.gem.specs.Gem.{outputs-in}
 use Rattle.pll_rows.specs.declared.PllPlan.{PllPlan}
 use Rattle.pll_rows.specs.Sequence.{Row, read, write, poll, Access, Log, Ending, locked, timed-out, starved, a-read, a-write, after, seen, reads, polls, log, sequence, accesses-of}
 use Rattle.bypass.specs.InUse.{InUse}
+use Rattle.bypass.proofs.Refusals.{of-50}
 
 -- ---- the last access
 
@@ -75,19 +75,14 @@ module _ (j : ℕ) (f : ℕ → ℕ) where
 
 -- ---- the evaluation
 
-refused-is-no-answer : {n : ℕ} {carries : List ℕ} {clocks : Clocks} → refused n carries ≡ answered clocks → ⊥
-refused-is-no-answer e = let z : _≡_ {A = ℕ} 0 1 = cc in omega arith
-
--- an answer has the record that the formulas give
+-- an answer is the record that the formulas give
 only-answer : (crystal : ℕ) (image : List ℕ) (clocks : Clocks) → evaluated crystal image ≡ answered clocks → clocks-of crystal image ≡ clocks
-unfolding evaluated
-only-answer crystal image clocks e = by (eqb (length image) WORDS) (reason crystal image) e
+only-answer crystal image clocks e =
+    by (reason crystal image) (of-50 crystal image (answered clocks) (λ f. let z : _≡_ {A = ℕ} 0 1 = cc in omega arith) e .1)
   where
-    by : (whole : Bool) (r : Reason) → pick-told whole (judged r (answered (clocks-of crystal image))) (refused 1 []) ≡ answered clocks →
-        clocks-of crystal image ≡ clocks
-    by true Nothing e = cc
-    by true (Broken check) e = absurd (refused-is-no-answer e)
-    by false r e = absurd (refused-is-no-answer e)
+    by : (r : Reason) → judged r (answered (clocks-of crystal image)) ≡ answered clocks → clocks-of crystal image ≡ clocks
+    by Nothing f = cc
+    by (Broken check) f = let z : _≡_ {A = ℕ} 0 1 = cc in absurd (omega arith)
 
 pll-of : (crystal : ℕ) (image : List ℕ) (pll : PllType) →
     output-of (outputs-in (clocks-of crystal image)) pll ≡ pll-output crystal (word image (pll-ctrl pll))

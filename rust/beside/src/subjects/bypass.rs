@@ -30,8 +30,8 @@ pub fn with_controls(n: &[u32], crystal: usize, change: impl Fn(u32) -> u32) -> 
 /// as it is.
 pub fn instead(n: &[u32], crystal: usize) -> Option<Numbers> {
     let controls = &n[crystal + 1..=crystal + 3];
-    let dark = controls.iter().any(|&control| multiplier(control) == 0);
-    if dark || !controls.iter().any(|&control| bypassed(control)) {
+    let zero = controls.iter().any(|&control| multiplier(control) == 0);
+    if zero || !controls.iter().any(|&control| bypassed(control)) {
         return None;
     }
     Some(with_controls(n, crystal, by_one))

@@ -196,10 +196,10 @@ pub fn ruled(n: &[u32]) -> Option<Answer> {
         return Some(Answer::refused(1));
     }
     let controls = &words[..3];
-    let dark = |&control: &u32| multiplier(control) == 0;
+    let zero = |&control: &u32| multiplier(control) == 0;
     let fits =
         |&control: &u32| bypassed(control) || crystal.checked_mul(multiplier(control)).is_some();
-    let refused = !controls.iter().any(dark) && !controls.iter().all(fits);
+    let refused = !controls.iter().any(zero) && !controls.iter().all(fits);
     refused.then(|| Answer::carrying(3, 0))
 }
 
