@@ -108,8 +108,8 @@ in-use plan limit words e =
     let released = read-set-fits (u .from) BYPASS-FORCE 0 (omega arith) in
     record {
       earlier = u .earlier;
-      word = set-field (u .from) BYPASS-FORCE 0;
-      last = u .last;
+      last-word = set-field (u .from) BYPASS-FORCE 0;
+      last-access = u .last;
       released = released;
       multiplies = multiplies (plan .pll) (set-field (u .from) BYPASS-FORCE 0) released;
     }

@@ -6,7 +6,7 @@ use Rattle.refusals.specs.Told.{answered}
 use Rattle.fields.specs.Word.{read-field}
 use Rattle.registers.specs.Fields.{BYPASS-FORCE, FDIV}
 use Rattle.registers.specs.Plls.{pll-ctrl}
-use Rattle.registers.specs.Words as image
+use Rattle.registers.specs.Words.{word}
 use Rattle.sources.specs.Source.{output-of}
 use Rattle.clocks.specs.declared.Clocks.{Clocks}
 use Rattle.evaluation.specs.Evaluated.{evaluated}
@@ -18,8 +18,8 @@ use Rattle.pll_rows.specs.Sequence.{Access, Log, a-write}
 -- the PLL gives the crystal times this word's own FDIV.
 pub record InUse (plan : PllPlan) (run : Log) : Type 0 where
   pub earlier : List Access
-  pub word : ℕ
-  pub last : run .accesses ≡ earlier ++ (a-write (pll-ctrl (plan .pll)) word ∷ [])
-  pub released : read-field word BYPASS-FORCE ≡ 0
-  pub multiplies : (crystal : ℕ) (words : List ℕ) (clocks : Clocks) → image.word words (pll-ctrl (plan .pll)) ≡ word →
-      evaluated crystal words ≡ answered clocks → output-of (outputs-in clocks) (plan .pll) ≡ crystal * read-field word FDIV
+  pub last-word : ℕ
+  pub last-access : run .accesses ≡ earlier ++ (a-write (pll-ctrl (plan .pll)) last-word ∷ [])
+  pub released : read-field last-word BYPASS-FORCE ≡ 0
+  pub multiplies : (crystal : ℕ) (image : List ℕ) (clocks : Clocks) → word image (pll-ctrl (plan .pll)) ≡ last-word →
+      evaluated crystal image ≡ answered clocks → output-of (outputs-in clocks) (plan .pll) ≡ crystal * read-field last-word FDIV

@@ -16,7 +16,8 @@ use Rattle.sources.specs.declared.TraceSource.the-variants.{From, Emio}
 abbrev pub bypassed : ℕ → Bool
 bypassed control = eqb (read-field control BYPASS-FORCE) 1
 
--- what a PLL gives, for the crystal and its control word: the one place that says so
+-- what a PLL gives, for the crystal and its control word: the crystal where it is bypassed, else the crystal times FDIV. This is the one
+-- place that says so.
 unfoldable pub pll-output : ℕ → ℕ → ℕ
 pll-output crystal control = cond (bypassed control) crystal (crystal * read-field control FDIV)
 

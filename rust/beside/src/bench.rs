@@ -37,7 +37,7 @@ impl Inputs {
         let rng = Rng::new(seed, subject.about().stream);
         let drawn = std::iter::repeat_with(|| subject.random(&rng));
         let requests: Vec<Numbers> = drawn
-            .filter(|n| subject.ruled(n).is_none() && subject.instead(n).is_none())
+            .filter(|n| subject.instead(n).is_none() && subject.ruled(n).is_none())
             .filter(|n| subject.is_timed(n))
             .take((count / subject.rarity()).max(FEW))
             .collect();

@@ -65,26 +65,25 @@ pub trait Subject: Sync {
         true
     }
 
-    /// The documents' answer where the original has none.
-    fn ruled(&self, n: &[u32]) -> Option<Answer>;
-
-    /// What the original is asked in place of what is not ruled, where document 02 changes its answer: the request whose
-    /// answer, as the original gives it, is the right one here.
+    /// Where document 02 changes an answer: the request whose answer by document 01 is the right one here.
     fn instead(&self, _n: &[u32]) -> Option<Numbers> {
         None
     }
 
+    /// Document 01's answer where the original has none.
+    fn ruled(&self, n: &[u32]) -> Option<Answer>;
+
     /// The original's answer to what is not ruled.
     fn original(&self, n: &[u32]) -> Answer;
 
-    /// The right answer: the original's wherever it has one, and the documents' alone outside the differential domain.
+    /// The right answer: the original's wherever it has one, and document 01's alone outside the differential domain.
     fn judged(&self, n: &[u32]) -> (Answer, By) {
-        if let Some(answer) = self.ruled(n) {
-            return (answer, By::Rule);
-        }
-        match self.instead(n) {
-            Some(other) => (self.original(&other), By::Instead),
-            None => (self.original(n), By::Rust),
+        let other = self.instead(n);
+        let asked = other.as_deref().unwrap_or(n);
+        match self.ruled(asked) {
+            Some(answer) => (answer, By::Rule),
+            None if other.is_some() => (self.original(asked), By::Instead),
+            None => (self.original(asked), By::Rust),
         }
     }
 

@@ -1,5 +1,5 @@
-//! W-205, for the subjects of an image: a PLL whose force bit is set gives the crystal. The original knows no bypass; it is
-//! asked about the image in which such a PLL multiplies by 1.
+//! W-205, for the subjects of an image: a PLL whose force bit is set gives the crystal. Document 01 and the original know no
+//! bypass; they are asked about the image in which such a PLL multiplies by 1.
 use super::image::{FDIV, changed};
 use crate::generate::{Numbers, grid};
 use original::WORDS;
@@ -26,10 +26,9 @@ pub fn with_controls(n: &[u32], crystal: usize, change: impl Fn(u32) -> u32) -> 
     numbers
 }
 
-/// What the original is asked in place of an image with a bypassed PLL. A multiplier of 0 it refuses by itself, in the image
-/// as it is.
+/// What is asked in place of an image with a bypassed PLL. A multiplier of 0 is refused in the image as it is.
 pub fn instead(n: &[u32], crystal: usize) -> Option<Numbers> {
-    let controls = &n[crystal + 1..=crystal + 3];
+    let controls = n.get(crystal + 1..=crystal + 3)?;
     let zero = controls.iter().any(|&control| multiplier(control) == 0);
     if zero || !controls.iter().any(|&control| bypassed(control)) {
         return None;

@@ -94,8 +94,7 @@ impl Subject for Clocks {
                 })
             }),
             Fault("OverflowThoughBypassed", |n| {
-                let multiplied = bypass::with_controls(n, 0, |control| control & !FORCE);
-                image::ruled(&multiplied).unwrap_or_else(|| Clocks.judged(n).0)
+                image::ruled(n).unwrap_or_else(|| Clocks.judged(n).0)
             }),
             Fault("EveryPllGivesTheCrystal", |n| {
                 after(n, |control| control | FORCE)

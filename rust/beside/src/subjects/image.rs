@@ -1,5 +1,5 @@
 //! For the subjects of an image: a crystal and the image's words, with every field at its limits.
-use super::bypass::{bypassed, every_way, multiplier, small as bypassed_small};
+use super::bypass::{self, every_way, multiplier};
 use crate::answer::Answer;
 use crate::generate::Numbers;
 use crate::rng::Rng;
@@ -121,7 +121,7 @@ pub fn small() -> Vec<Numbers> {
         (0..1 << place.2).map(move |value| changed(base, place, value))
     };
     let fields = CHECKED.iter().chain(&SELECTING).flat_map(values);
-    fields.chain(bypassed_small(&base)).collect()
+    fields.chain(bypass::small(&base)).collect()
 }
 
 pub fn edges() -> Vec<Numbers> {
@@ -189,17 +189,15 @@ pub fn random(rng: &Rng) -> Numbers {
     numbers
 }
 
-/// The refusals of a crystal and an image that the original has not.
+/// Document 01's refusals of a crystal and an image that the original has not.
 pub fn ruled(n: &[u32]) -> Option<Answer> {
     let (crystal, words) = (n[0], &n[1..]);
     if words.len() != WORDS {
         return Some(Answer::refused(1));
     }
-    let controls = &words[..3];
-    let zero = |&control: &u32| multiplier(control) == 0;
-    let fits =
-        |&control: &u32| bypassed(control) || crystal.checked_mul(multiplier(control)).is_some();
-    let refused = !controls.iter().any(zero) && !controls.iter().all(fits);
+    let multipliers = [words[0], words[1], words[2]].map(multiplier);
+    let fits = |&by: &u32| crystal.checked_mul(by).is_some();
+    let refused = !multipliers.contains(&0) && !multipliers.iter().all(fits);
     refused.then(|| Answer::carrying(3, 0))
 }
 

@@ -63,7 +63,7 @@ impl Clocks {
     /// assert_eq!(dark, Err(Refusal::DivisorZero(ClockModuleId::Pll)));
     /// ```
     ///
-    /// The same image with the IO PLL at 30 times the crystal, then bypassed:
+    /// An IO PLL at 30 times the crystal, and then bypassed:
     ///
     /// ```
     #[doc = include_str!("plain_image.txt")]
