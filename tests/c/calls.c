@@ -167,6 +167,9 @@ static void bypassed_plls(void)
 {
     uint32_t clocks[OGR_CLOCK_WORDS];
     plain_image();
+    image[0] = 0x2010;
+    GIVES(ogr_clocks(1, image, 50, row, 26), 0);
+    GIVES(row[OGR_CLOCK_ARM_PLL], 1);
     image[0] = 2 << 12 | 0x0B;
     image[1] = 3 << 12 | 0x10;
     image[2] = 5 << 12;

@@ -105,6 +105,17 @@ fn three_plls_are_told_apart() {
     assert_eq!((clocks[9], clocks[12]), (300, 500));
 }
 
+/// Where W-205 differs: ours gives the crystal for this image, as tests/c/calls.c has it.
+#[test]
+fn the_original_knows_no_bypass() {
+    let mut image = plain_image();
+    image[0] = 0x2010;
+    let clocks = original::clocks(1, &image).expect("no divisor is 0");
+    assert_eq!(clocks[..3], [2, 1, 1]);
+    image[0] = 0x0010;
+    assert_eq!(original::clocks(1, &image), Err(0));
+}
+
 #[test]
 fn sequence() {
     let reads = [0xFFFF_FFFF, 0xFFFF_FFFF, 0xFFFF_FFFF, 0, 0b101, 0b010, 0x10];
