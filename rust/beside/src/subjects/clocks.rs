@@ -11,11 +11,6 @@ use original::EMIO;
 
 pub struct Clocks;
 
-/// The right answer to an image with its PLLs changed.
-fn after(n: &[u32], change: fn(u32) -> u32) -> Answer {
-    Clocks.judged(&bypass::with_controls(n, 0, change)).0
-}
-
 impl Subject for Clocks {
     fn about(&self) -> About {
         About {
@@ -57,7 +52,8 @@ impl Subject for Clocks {
     }
 
     fn faults(&self) -> Vec<Fault> {
-        vec![
+        let mut faults = bypass_faults();
+        faults.extend([
             Fault("TwoTimesOneInEvaluation", |n| {
                 let mut answer = Clocks.judged(n).0;
                 if answer.refused == 0 {
@@ -80,29 +76,8 @@ impl Subject for Clocks {
                 }
                 answer
             }),
-            Fault("QualifierBypasses", |n| {
-                after(n, |control| {
-                    control & !0x18 | (control & 8) << 1 | (control & 16) >> 1
-                })
-            }),
-            Fault("BypassExcusesFdivZero", |n| {
-                after(n, |control| {
-                    match (bypassed(control), multiplier(control)) {
-                        (true, 0) => control | 1 << 12,
-                        _ => control,
-                    }
-                })
-            }),
-            Fault("OverflowThoughBypassed", |n| {
-                image::ruled(n).unwrap_or_else(|| Clocks.judged(n).0)
-            }),
-            Fault("EveryPllGivesTheCrystal", |n| {
-                after(n, |control| control | FORCE)
-            }),
-            Fault("BypassOfNoAccount", |n| {
-                after(n, |control| control & !FORCE)
-            }),
-        ]
+        ]);
+        faults
     }
 
     fn request(&self, n: &[u32]) -> String {
@@ -136,4 +111,37 @@ impl Subject for Clocks {
             })
         })
     }
+}
+
+/// W-205's slips.
+fn bypass_faults() -> Vec<Fault> {
+    vec![
+        Fault("QualifierBypasses", |n| {
+            after(n, |control| {
+                control & !0x18 | (control & 8) << 1 | (control & 16) >> 1
+            })
+        }),
+        Fault("BypassExcusesFdivZero", |n| {
+            after(n, |control| {
+                match (bypassed(control), multiplier(control)) {
+                    (true, 0) => control | 1 << 12,
+                    _ => control,
+                }
+            })
+        }),
+        Fault("OverflowThoughBypassed", |n| {
+            image::ruled(n).unwrap_or_else(|| Clocks.judged(n).0)
+        }),
+        Fault("EveryPllGivesTheCrystal", |n| {
+            after(n, |control| control | FORCE)
+        }),
+        Fault("BypassOfNoAccount", |n| {
+            after(n, |control| control & !FORCE)
+        }),
+    ]
+}
+
+/// The right answer to an image with its PLLs changed.
+fn after(n: &[u32], change: fn(u32) -> u32) -> Answer {
+    Clocks.judged(&bypass::with_controls(n, 0, change)).0
 }
