@@ -26,7 +26,7 @@
 extern "C" {
 #endif
 
-/* The refusals, by document 01's numbers. */
+/* The refusals, by the numbers of documents 01 and 02. */
 enum ogr_refusal {
     OGR_BAD_IMAGE = 1,     /* the image is not OGR_IMAGE_WORDS long */
     OGR_DIVISOR_ZERO = 2,  /* a checked divisor field is 0; carries its ogr_module */
@@ -41,8 +41,8 @@ enum ogr_refusal {
     OGR_LOCK_TIMEOUT = 11, /* the PLL is unlocked at the last allowed poll */
     OGR_BAD_LIMIT = 12,    /* the poll limit is 0 */
     OGR_ALREADY = 13,      /* a once-only PLL start is repeated */
-    /* 14 to 19 are document 02's; no call here gives them yet. */
     OGR_ZERO_CLOCK = 14,   /* the crystal is 0 where ratios are asked for */
+    /* 15 to 19 are document 02's; no call here gives them yet. */
     OGR_BAD_SETTINGS = 15, /* a settings record breaks a rule; carries the offset */
     OGR_NEWER = 16,        /* a settings record of a later version */
     OGR_NOT_YOURS = 17,    /* a word that the party does not hold, or cannot claim */
@@ -174,6 +174,12 @@ struct ogr_pll_ran {
 
 /* Words of an image: word i is the SLCR register at offset 0x100 + 4i. */
 #define OGR_IMAGE_WORDS 50
+
+/* The PL clocks, and the numbers of a table of their ratios: OGR_RATIO(i, j) is where the numerator of clock i to clock j stands; the
+ * denominator is the next. */
+#define OGR_PL_CLOCKS 4
+#define OGR_RATIO_NUMBERS 32
+#define OGR_RATIO(i, j) (2 * (OGR_PL_CLOCKS * (i) + (j)))
 
 /* The most viable baud pairs that there can be. */
 #define OGR_MOST_BAUD_PAIRS 251
@@ -326,6 +332,15 @@ uint64_t ogr_uart_list(uint32_t reference, uint32_t baud, struct ogr_baud_diviso
  * and Trace's divisor under EMIO.
  */
 uint64_t ogr_clocks(uint32_t crystal, const uint32_t *image, size_t image_len, uint32_t *out, size_t out_len);
+
+/*
+ * The exact ratio of every two PL clocks. A clock is its PLL's output over both divisors, as ogr_clocks has it but for the rounding: with
+ * outputs s and products of divisors p, clock i to clock j is s_i p_j to s_j p_i in lowest terms. The crystal cancels, so that an error of
+ * its own is in no ratio. A clock to itself is 1 to 1, no number is 0, and none is over 504063 (127 times 63 times 63).
+ * out: OGR_RATIO_NUMBERS numbers of 64 bits, numerator and denominator of clock 0 to clocks 0, 1, 2, 3, then of clock 1, and so on.
+ * Refusals: OGR_NO_ROOM (OGR_RATIO_NUMBERS); those of ogr_clocks but its own OGR_NO_ROOM, in its order; OGR_ZERO_CLOCK.
+ */
+uint64_t ogr_ratios(uint32_t crystal, const uint32_t *image, size_t image_len, uint64_t *out, size_t out_len);
 
 /*
  * The reference clock of Ethernet 0, or 1 if `second`: of a row that ogr_clocks filled, and of the controller's register word, which is

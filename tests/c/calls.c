@@ -210,6 +210,47 @@ static void zero_divisors(void)
     REFUSES(ogr_clocks(UINT32_MAX, image, 50, row, 26), 2, 0);
 }
 
+/* Sources and divisors that differ: 5 over 81, 3 over 1, 2 over 6, 2 over 6. One to one on the diagonal, turned round across it, and the
+ * crystal in none. */
+static void ratios(void)
+{
+    static const uint64_t right[OGR_RATIO_NUMBERS] = {1, 1, 5, 243, 5, 27, 5, 27, 243, 5, 1, 1, 9, 1, 9, 1,
+                                                      27, 5, 1, 9, 1, 1, 1, 1, 27, 5, 1, 9, 1, 1, 1, 1};
+    uint64_t table[OGR_RATIO_NUMBERS + 1];
+    plain_image();
+    image[0] = 2 << 12;
+    image[1] = 3 << 12;
+    image[2] = 5 << 12;
+    image[28] = 0x01B00300;
+    image[32] = 0x00100130;
+    image[36] = 0x00200320;
+    image[40] = 0x00300220;
+    for (uint32_t crystal = 1; crystal <= UINT32_MAX / 5; crystal = crystal * 8 + 1) {
+        memset(table, 0xA5, sizeof table);
+        GIVES(ogr_ratios(crystal, image, 50, table, OGR_RATIO_NUMBERS + 1), 0);
+        GIVES(memcmp(table, right, sizeof right), 0);
+        GIVES(table[OGR_RATIO_NUMBERS], UINT64_C(0xA5A5A5A5A5A5A5A5));
+    }
+    GIVES(table[OGR_RATIO(2, 0)], 27);
+    GIVES(table[OGR_RATIO(2, 0) + 1], 5);
+    /* bypassed, a PLL gives the crystal: now FPGA 1 to FPGA 0 is 1 over 1 to 5 over 81 */
+    image[1] |= 0x10;
+    GIVES(ogr_ratios(1, image, 50, table, OGR_RATIO_NUMBERS), 0);
+    GIVES(table[OGR_RATIO(1, 0)], 81);
+    GIVES(table[OGR_RATIO(1, 0) + 1], 5);
+
+    memset(table, 0xA5, sizeof table);
+    for (size_t len = 0; len < OGR_RATIO_NUMBERS; len++)
+        GIVES(ogr_ratios(0, NULL, 0, table, len), 9 | (uint64_t)OGR_RATIO_NUMBERS << 32);
+    GIVES(ogr_ratios(0, image, 49, table, OGR_RATIO_NUMBERS), 1);
+    GIVES(ogr_ratios(UINT32_MAX, image, 50, table, OGR_RATIO_NUMBERS), 3);
+    GIVES(ogr_ratios(0, image, 50, table, OGR_RATIO_NUMBERS), 14);
+    image[40] = 0x00300020;
+    GIVES(ogr_ratios(0, image, 50, table, OGR_RATIO_NUMBERS), 2 | (uint64_t)OGR_MODULE_FPGA << 32);
+    for (size_t i = 0; i <= OGR_RATIO_NUMBERS; i++)
+        GIVES(table[i], UINT64_C(0xA5A5A5A5A5A5A5A5));
+}
+
 /* Of a row whose PLLs give 200, 300 and 100: the source's PLL over both divisors, whatever EMIO's bit is. */
 static void gem(void)
 {
@@ -273,7 +314,7 @@ int main(void)
 {
     void (*const all[])(void) = {two_stage, i2c, ttc, pll_settings, pll_seq_locks, pll_seq_does_not_lock,
                                  pll_seq_is_not_started, pll_steps, pll_steps_time_out, pll_steps_from_no_run, pll_steps_from_forged_runs,
-                                 pll_starts_once, pll_starts_unchecked, uart, uart_list, clocks, bypassed_plls, zero_divisors, gem,
+                                 pll_starts_once, pll_starts_unchecked, uart, uart_list, clocks, bypassed_plls, zero_divisors, ratios, gem,
                                  io_update, set_up};
     for (size_t i = 0; i < sizeof all / sizeof *all; i++)
         all[i]();

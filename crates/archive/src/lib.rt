@@ -1,4 +1,4 @@
-// Document 01's calls for programs in C and Rust: each hands on what its crate tells, and include/ogruspinu.h says it call by call.
+// The calls for programs in C and Rust: each hands on what its crate tells, and include/ogruspinu.h says it call by call.
 // Numbers pass as themselves, a row of words as a pointer and a length, a struct by value.
 mod pll;
 mod records;
@@ -15,6 +15,7 @@ ghost use Rattle.c_pll_settings.specs.Tells.{PllMulTells, PllTargetTells};
 ghost use Rattle.c_uart.specs.Tells.{UartTells};
 ghost use Rattle.c_clocks.specs.Tells.{ClocksTells};
 ghost use Rattle.c_clocks.specs.Update.{IoUpdated};
+ghost use Rattle.c_ratios.specs.Tells.{RatiosTells};
 ghost use Rattle.c_gem.specs.Tells.{GemHanded};
 ghost use Rattle.c_clock_setup.specs.Tells.{CpuInitTells, DdrInitTells};
 
@@ -79,6 +80,13 @@ pub extern "C" fn ogr_clocks(crystal: u32, image: &[u32], out: &mut [u32]) -> u6
     ensures { λ r. ⌜ Handed 26 (ClocksTells crystal (now (image .entry))) (now (out .entry)) r (now (out .exit)) ⌝ }
 {
     c_clocks::clocks(crystal, image, out)
+}
+
+#[no_mangle]
+pub extern "C" fn ogr_ratios(crystal: u32, image: &[u32], out: &mut [u64]) -> u64
+    ensures { λ r. ⌜ Handed 32 (RatiosTells crystal (now (image .entry))) (now (out .entry)) r (now (out .exit)) ⌝ }
+{
+    c_ratios::ratios(crystal, image, out)
 }
 
 #[no_mangle]

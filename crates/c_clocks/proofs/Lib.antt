@@ -1,3 +1,3 @@
-mod Errors
+pub mod Errors
 pub mod Laws
 pub mod Update

@@ -81,7 +81,8 @@ fn clock_words(c: Clocks) -> [u32; 26]
     ]
 }
 
-fn error_code(error: ClockReadError) -> u64
+// What evaluation refuses, as the number that a call hands back.
+pub fn error_code(error: ClockReadError) -> u64
     ensures { λ r. ⌜ r ≡ coded {A = ℕ} (told-error error) ⌝ }
 {
     match error {

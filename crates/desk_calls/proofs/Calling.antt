@@ -7,9 +7,9 @@ use lib.ListN.{length, take, drop, length-take, length-drop, List·getD-eq-defau
 use lib.Seq.{take-all}
 use Rattle.bounds.proofs.Bound.{kept}
 use Rattle.handing.specs.Handed.{Given, Handed}
-use Rattle.desk_calls.specs.Calls.{Call, calls, call-at, nothing, nothing-said}
+use Rattle.desk_calls.specs.Calls.{Call, MOST-WORDS, calls, call-at, nothing, nothing-said}
 
-pub at-place : {place : ℕ} (n : List ℕ) {before after : List ℕ} {r : ℕ} (k : ℕ) → 26 ≤ length before → place ≡ k → Given (call-at k n) before r after → Handed 26 (call-at place n) before r after
+pub at-place : {place : ℕ} (n : List ℕ) {before after : List ℕ} {r : ℕ} (k : ℕ) → MOST-WORDS ≤ length before → place ≡ k → Given (call-at k n) before r after → Handed MOST-WORDS (call-at place n) before r after
 at-place n {before} {after} {r} k h e g = kept h (subst⁻¹ (λ (p : ℕ). Given (call-at p n) before r after) e g)
 
 -- the last arm: the place is none of those before it
@@ -24,7 +24,7 @@ pub past-all : (X : Type 0) {place : ℕ} (k : ℕ) → NoneOf X place k → k �
 past-all X zero x = zero-le
 past-all X (suc k) (x, n) = above k (past-all X k x) n
 
-pub at-last : {place : ℕ} (n : List ℕ) {before : List ℕ} → 26 ≤ length before → length calls ≤ place → Handed 26 (call-at place n) before 0 before
+pub at-last : {place : ℕ} (n : List ℕ) {before : List ℕ} → MOST-WORDS ≤ length before → length calls ≤ place → Handed MOST-WORDS (call-at place n) before 0 before
 at-last {place} n {before} h past =
     kept h (subst⁻¹ (λ (c : Call). Given (c n) before 0 before) (List·getD-eq-default calls nothing past) (Given.answer nothing-said))
 

@@ -1,3 +1,4 @@
 mod Calling
 mod GemOfImage
+mod RatiosInWords
 pub mod Settled

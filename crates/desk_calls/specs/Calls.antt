@@ -1,6 +1,6 @@
 -- What the desk can be asked, call by call: the numbers of a line go in, and what comes out is what the call tells. The rows of the desk's table
 -- (crate desk_requests) cite these in the same order.
-use Prim.Native.Nat.{ℕ, _+_, _%_}
+use Prim.Native.Nat.{ℕ, _+_, _%_, _^_, _<_}
 use mathlib.Core.Path.{_≡_}
 use mathlib.Core.Bool.{Bool, not}
 use mathlib.Core.List.{List, [], _∷_}
@@ -20,7 +20,12 @@ use Rattle.c_pll_settings.specs.Tells.{PllMulTells, PllTargetTells}
 use Rattle.c_uart.specs.Tells.{UartTells}
 use Rattle.c_clocks.specs.Tells.{ClocksTells, clockWords}
 use Rattle.c_gem.specs.Tells.{GemTells}
+use Rattle.c_ratios.specs.Tells.{RatiosTells}
 use Rattle.c_clock_setup.specs.Tells.{CpuInitTells, DdrInitTells}
+
+-- room for the words of every answer: those of the ratios
+abbrev pub MOST-WORDS : ℕ
+MOST-WORDS = 32
 
 -- what a call tells of the numbers of a line
 abbrev pub Call : Type 1
@@ -37,6 +42,10 @@ isSet n = not (eqb n 0)
 pub data GemOfImage (second : Bool) (word crystal : ℕ) (image : List ℕ) : Told (List ℕ) → Type 0 where
   not-evaluated : {number : ℕ} {carried : List ℕ} → evaluated crystal image ≡ refused number carried → GemOfImage second word crystal image (refused number carried)
   of-record : {clocks : Clocks} {t : Told (List ℕ)} → evaluated crystal image ≡ answered clocks → GemTells second word (clockWords clocks) t → GemOfImage second word crystal image t
+
+-- each of these words has 32 bits
+abbrev pub Low : List ℕ → Type 0
+Low words = (k : ℕ) → nth words k < 2 ^ 32
 
 -- REF TARGET MAX, and so on: the words of a request as its row has them
 abbrev pub two-stage : Call
@@ -75,9 +84,12 @@ clocks n = ClocksTells (nth n 0) (drop 1 n)
 abbrev pub gem : Call
 gem n = GemOfImage (isSet (nth n 0)) (word (drop 2 n) (nth n 0 + GEM-0-CLK-CTRL)) (nth n 1) (drop 2 n)
 
+abbrev pub ratios : Call
+ratios n = RatiosTells (nth n 0) (drop 1 n)
+
 -- by their places
 abbrev pub calls : List Call
-calls = two-stage ∷ two-stage-frequency ∷ i2c ∷ i2c-speed ∷ ttc ∷ pll-target ∷ pll-mul ∷ uart ∷ cpu-init ∷ ddr-init ∷ clocks ∷ gem ∷ []
+calls = two-stage ∷ two-stage-frequency ∷ i2c ∷ i2c-speed ∷ ttc ∷ pll-target ∷ pll-mul ∷ uart ∷ cpu-init ∷ ddr-init ∷ clocks ∷ gem ∷ ratios ∷ []
 
 -- past the last place nothing is called: no words
 pub data Nothing : Told (List ℕ) → Type 0 where

@@ -7,6 +7,7 @@ use c_i2c::i2c;
 use c_i2c::i2c_speed;
 use c_pll_settings::pll_mul;
 use c_pll_settings::pll_target;
+use c_ratios::ratios;
 use c_ttc::ttc;
 use c_two_stage::two_stage;
 use c_two_stage::two_stage_frequency;
@@ -16,18 +17,20 @@ use handing::put_number;
 use registers::GEM_0_CLK_CTRL;
 use registers::word;
 ghost use mathlib.Core.Path.{_≡_};
+ghost use mathlib.Core.List.{_++_};
 ghost use Prim.Native.Nat.{_+_, _≤_};
 ghost use lib.ListN.{length, drop};
 ghost use Rattle.registers.specs.Words.{word as word-of, GEM-0-CLK-CTRL};
 ghost use Rattle.handing.specs.Handed.{Handed, Given};
-ghost use Rattle.desk_calls.specs.Calls.{call-at, GemOfImage, isSet};
+ghost use Rattle.c_ratios.specs.Tells.{RatiosTells};
+ghost use Rattle.desk_calls.specs.Calls.{MOST-WORDS, Low, call-at, GemOfImage, isSet};
 
-// Makes the call at a place. Twenty-six words have room for every answer.
+// Makes the call at a place. Thirty-two words have room for every answer.
 pub fn call(place: usize, n: &[u32], out: &mut [u32]) -> u64
-    ensures { λ r. ⌜ Handed 26 (call-at place (now (n .entry))) (now (out .entry)) r (now (out .exit)) ⌝ }
+    ensures { λ r. ⌜ Handed MOST-WORDS (call-at place (now (n .entry))) (now (out .entry)) r (now (out .exit)) ⌝ }
 {
-    if out.len() < 26 {
-        return no_room(26);
+    if out.len() < 32 {
+        return no_room(32);
     }
     let a = word(n, 0);
     let b = word(n, 1);
@@ -45,6 +48,7 @@ pub fn call(place: usize, n: &[u32], out: &mut [u32]) -> u64
         9 => ddr_init(a, b, c, out),
         10 => clocks(a, from(n, 1), out),
         11 => gem_of_image(a, b, from(n, 2), out),
+        12 => ratios_in_words(a, from(n, 1), out),
         _ => 0,
     }
 }
@@ -62,7 +66,7 @@ fn from(n: &[u32], at: usize) -> &[u32]
 
 // GEM takes an evaluated record: here the image is evaluated first.
 fn gem_of_image(controller: u32, crystal: u32, image: &[u32], out: &mut [u32]) -> u64
-    requires { ⌜ 26 ≤ length (now out) ⌝ }
+    requires { ⌜ 1 ≤ length (now out) ⌝ }
     ensures { λ r. ⌜ Given (GemOfImage (isSet controller) (word-of (now (image .entry)) (controller + GEM-0-CLK-CTRL)) crystal (now (image .entry))) (now (out .entry)) r (now (out .exit)) ⌝ }
 {
     let mut row = [0u32; 26];
@@ -72,4 +76,29 @@ fn gem_of_image(controller: u32, crystal: u32, image: &[u32], out: &mut [u32]) -
     }
     let control = word(image, controller as usize + GEM_0_CLK_CTRL);
     gem(controller != 0, control, &row, out)
+}
+
+// The table's numbers have 64 bits for programs in C, and none is as long: here they go into words.
+fn ratios_in_words(crystal: u32, image: &[u32], out: &mut [u32]) -> u64
+    requires { ⌜ MOST-WORDS ≤ length (now out) ⌝ }
+    ensures { λ r. ⌜ Given (RatiosTells crystal (now (image .entry))) (now (out .entry)) r (now (out .exit)) ⌝ }
+{
+    let mut row = [0u64; 32];
+    let told = ratios(crystal, image, &mut row);
+    if told != 0 {
+        return told;
+    }
+    put_low(out, &row);
+    0
+}
+
+fn put_low(out: &mut [u32], words: &[u64])
+    requires { ⌜ (length (now words) ≤ length (now out)) × Low (now words) ⌝ }
+    ensures { λ _. ⌜ now (out .exit) ≡ now (words .entry) ++ drop (length (now (words .entry))) (now (out .entry)) ⌝ }
+{
+    let mut i = 0;
+    while i < words.len() {
+        out[i] = words[i] as u32;
+        i += 1;
+    }
 }

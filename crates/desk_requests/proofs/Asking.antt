@@ -21,7 +21,7 @@ use Rattle.forms.specs.Told.{toldText, toldMost}
 use Rattle.forms.specs.Says.{ROOM, Said, Says}
 use Rattle.forms.proofs.Saying.{said, says}
 use Rattle.handing.specs.Handed.{Given}
-use Rattle.desk_calls.specs.Calls.{nth, call-at}
+use Rattle.desk_calls.specs.Calls.{MOST-WORDS, nth, call-at}
 use Rattle.desk_uart_list.specs.List.{Listed}
 use Rattle.desk_pll_seq.specs.Request.{planOf, hostWords, runText}
 use Rattle.desk_faults.specs.Complaint.{complaint}
@@ -35,7 +35,7 @@ module _ {before : List ℕ} {at : ℕ} {after : List ℕ} {next : ℕ} where
   re-said f s = record { text = s .text; right = f (s .text) (s .right); said = s .said }
 
   -- ---- the numbers of a line
-  pub by-call : (k : ℕ) (n : List ℕ) {form told-words : List ℕ} {r : ℕ} → at + ROOM ≤ length before → form ≡ getD forms k [] → Given (call-at k n) (replicate 26 0) r told-words →
+  pub by-call : (k : ℕ) (n : List ℕ) {form told-words : List ℕ} {r : ℕ} → at + ROOM ≤ length before → form ≡ getD forms k [] → Given (call-at k n) (replicate MOST-WORDS 0) r told-words →
       InRoom (toldMost form) (Said (toldMost form) (toldText form r told-words)) before at after next → Says (row (3 + k) .says n) before at after next
   by-call k n room e g p =
       let q = rw (e ∙ same-form k) at p in

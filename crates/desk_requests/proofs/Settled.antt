@@ -16,6 +16,7 @@ use Rattle.c_ttc.proofs.Laws as c-ttc
 use Rattle.c_pll_settings.proofs.Laws as c-pll-settings
 use Rattle.c_uart.proofs.Laws as c-uart
 use Rattle.c_clocks.proofs.Laws as c-clocks
+use Rattle.c_ratios.proofs.Laws as c-ratios
 use Rattle.c_clock_setup.proofs.Laws as c-clock-setup
 use Rattle.desk_calls.specs.Calls.{nth, isSet}
 use Rattle.desk_calls.proofs.Settled.{one-number, one-gem, one-nothing}
@@ -58,6 +59,7 @@ all-single =
     and (λ n h. c-clock-setup.one-ddr (nth n 0) (nth n 1) (nth n 2))
     and (λ n h. c-clocks.one _ _)
     and (λ n h. one-gem _ _ _ _)
+    and (λ n h. c-ratios.one _ _)
     and none-left
 
 single-at : {rows : List CallRow} → AllSingle rows → (k : ℕ) (n : List ℕ) → Small n → Single (getD rows k no-call .tells n)

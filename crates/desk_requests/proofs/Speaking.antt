@@ -14,6 +14,7 @@ use Rattle.refusals.specs.Carried.{carries, carries-nothing, Carried}
 use Rattle.handing.specs.Handed.{Given, code}
 use Rattle.forms.specs.Form.{printed, kindOf, takes}
 use Rattle.forms.specs.Told.{refusalText, toldText}
+use Rattle.desk_calls.specs.Calls.{MOST-WORDS}
 use Rattle.desk_requests.specs.Row.{Spoken, refusal}
 
 -- ---- words behind which there are zeros print as they do by themselves
@@ -76,7 +77,7 @@ answer-text : (form words zeros : List ℕ) → ((i : ℕ) → getD zeros i 0 �
 unfolding toldText
 answer-text form words zeros z = same-words form (words ++ zeros) words (padded words zeros z)
 
-pub spoken : (form : List ℕ) {Tells : Told (List ℕ) → Type 0} {row : List ℕ} {r : ℕ} → Given Tells (replicate 26 0) r row → Spoken form Tells (toldText form r row)
-spoken form {Tells} (Given.refusal {number = n} {carried = carried} c t) = subst⁻¹ (Spoken form Tells) (refused-text form (replicate 26 0) n (code n carried) carried c refl) (Spoken.refuses t)
+pub spoken : (form : List ℕ) {Tells : Told (List ℕ) → Type 0} {row : List ℕ} {r : ℕ} → Given Tells (replicate MOST-WORDS 0) r row → Spoken form Tells (toldText form r row)
+spoken form {Tells} (Given.refusal {number = n} {carried = carried} c t) = subst⁻¹ (Spoken form Tells) (refused-text form (replicate MOST-WORDS 0) n (code n carried) carried c refl) (Spoken.refuses t)
 spoken form {Tells} (Given.answer {words = words} t) =
-    subst⁻¹ (Spoken form Tells) (answer-text form words (drop (length words) (replicate 26 0)) (all-zero 26 (length words))) (Spoken.answer t)
+    subst⁻¹ (Spoken form Tells) (answer-text form words (drop (length words) (replicate MOST-WORDS 0)) (all-zero MOST-WORDS (length words))) (Spoken.answer t)

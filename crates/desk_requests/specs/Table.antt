@@ -6,7 +6,7 @@ use mathlib.Core.Path.{_≡_}
 use mathlib.Core.List.{List, [], _∷_, _++_, map}
 use lib.ListN.{getD}
 use Rattle.text.specs.Bytes.{bytes}
-use Rattle.desk_calls.specs.Calls.{nth, nothing, two-stage, two-stage-frequency, i2c, i2c-speed, ttc, pll-target, pll-mul, uart, cpu-init, ddr-init, clocks, gem}
+use Rattle.desk_calls.specs.Calls.{nth, nothing, two-stage, two-stage-frequency, i2c, i2c-speed, ttc, pll-target, pll-mul, uart, cpu-init, ddr-init, clocks, gem, ratios}
 use Rattle.desk_uart_list.specs.List.{Listed}
 use Rattle.desk_pll_seq.specs.Request.{planOf, hostWords, runText}
 use Rattle.desk_requests.specs.Row.{Request, CallRow, call, request}
@@ -27,6 +27,8 @@ called =
     ∷ call "clocks" "nw" "ok_#_#_#_#_#_#_#_#_#_#_#_#_#_#_#_#_#_#_#_#_~_#_#_#_#" clocks
     "clocks CRYSTAL W0 .. W49 gives ok and ARM_PLL IO_PLL DDR_PLL CPU_REF RATIO 1X 2X 3X2X 6X4X DDR_REF DDR3X DDR2X IO_REF SMC QSPI SDIO UART SPI CAN PCAP TRACE|emio FPGA0 FPGA1 FPGA2 FPGA3"
     ∷ call "gem" "fnw" "#" gem "gem 0|1 CRYSTAL W0 .. W49 gives HZ"
+    ∷ call "ratios" "nw" "#:#_#:#_#:#_#:#_#:#_#:#_#:#_#:#_#:#_#:#_#:#_#:#_#:#_#:#_#:#_#:#" ratios
+    "ratios CRYSTAL W0 .. W49 gives N:D of FPGA0 to FPGA0 .. FPGA3, then of FPGA1, FPGA2 and FPGA3"
     ∷ []
 
 -- the others

@@ -1,3 +1,3 @@
 pub mod Handing
-mod Over
+pub mod Over
 pub mod Unique

@@ -37,7 +37,10 @@ impl Inputs {
         let rng = Rng::new(seed, subject.about().stream);
         let drawn = std::iter::repeat_with(|| subject.random(&rng));
         let requests: Vec<Numbers> = drawn
-            .filter(|n| subject.instead(n).is_none() && subject.ruled(n).is_none())
+            .filter(|n| {
+                let asked_itself = subject.instead(n).is_none() && subject.ruled(n).is_none();
+                asked_itself || !subject.has_original()
+            })
             .filter(|n| subject.is_timed(n))
             .take((count / subject.rarity()).max(FEW))
             .collect();
@@ -95,7 +98,7 @@ pub type Sides = (Timed, Timed);
 pub fn run(timed: &[(&dyn Subject, Sides)], seed: u64, count: usize, rounds: usize) {
     println!(
         "{:15} {:>7}  {:15}  {:15}  {:>10} {:>10}",
-        "call", "ratio", "middle half", "all", "Rust ns", "ours ns"
+        "call", "ratio", "middle half", "all", "judge ns", "ours ns"
     );
     for &(subject, sides) in timed {
         let inputs = Inputs::new(subject, seed, count);

@@ -48,7 +48,7 @@ impl Display for Tally {
             let rule = self.rule;
             return write!(
                 f,
-                "{rule:>9} equal to document 01; the Rust has no such call"
+                "{rule:>9} equal to the documents; the Rust has no such call"
             );
         }
         write!(f, "{:>9} equal to the Rust", self.rust)?;
@@ -56,7 +56,7 @@ impl Display for Tally {
             write!(f, ", {} to what it answers in their place", self.instead)?;
         }
         if self.rule > 0 {
-            write!(f, ", {} to document 01 where it has no answer", self.rule)?;
+            write!(f, ", {} to the documents where it has no answer", self.rule)?;
         }
         Ok(())
     }

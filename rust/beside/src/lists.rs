@@ -1,4 +1,4 @@
-//! Writes fixed lists of the original's answers, as requests and answers in the desk program's format.
+//! Writes fixed lists of the judges' answers, as requests and answers in the desk program's format.
 use crate::generate::Numbers;
 use crate::rng::Rng;
 use crate::subject::{By, Subject};
@@ -55,7 +55,7 @@ pub fn write(folder: &Path) -> io::Result<Vec<Written>> {
     Ok(written)
 }
 
-/// Edges and small inputs at even distances, and random ones; each once, and only what the original answers.
+/// Edges and small inputs at even distances, and random ones; each once, and only what the judge may answer here.
 fn chosen(subject: &dyn Subject, [edges, small, random]: [usize; 3]) -> Vec<Numbers> {
     let rng = Rng::new(SEED, subject.about().stream);
     let mut seen = HashSet::new();
@@ -82,7 +82,7 @@ fn thinned(
     all.into_iter().chain(others.into_iter().step_by(apart))
 }
 
-/// Only the original speaks.
+/// Only the original speaks, if it has the call.
 fn on_list(subject: &dyn Subject, n: &[u32]) -> bool {
-    subject.on_list(n) && subject.judged(n).1 != By::Rule
+    subject.on_list(n) && (!subject.has_original() || subject.judged(n).1 != By::Rule)
 }

@@ -6,7 +6,7 @@ pub fn difference(found: &Difference) -> String {
     let judge = match found.by {
         By::Rust => "the Rust",
         By::Instead => "the Rust, asked what stands for it",
-        By::Rule => "document 01",
+        By::Rule => "the documents",
     };
     let line = |answer| found.subject.line(answer);
     let (mut right, mut ours) = (line(&found.right), line(&found.ours));

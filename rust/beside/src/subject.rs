@@ -70,13 +70,19 @@ pub trait Subject: Sync {
         None
     }
 
-    /// Document 01's answer where the original has none.
+    /// Whether the original has the call. Of one that it has not the documents' words, in another way than ours, are the
+    /// judge: of the desk's list too, and their time is set beside ours.
+    fn has_original(&self) -> bool {
+        true
+    }
+
+    /// The documents' answer where the original has none.
     fn ruled(&self, n: &[u32]) -> Option<Answer>;
 
     /// The original's answer to what is not ruled.
     fn original(&self, n: &[u32]) -> Answer;
 
-    /// The right answer: the original's wherever it has one, and document 01's alone outside the differential domain.
+    /// The right answer: the original's wherever it has one, and the documents' alone outside the differential domain.
     fn judged(&self, n: &[u32]) -> (Answer, By) {
         let other = self.instead(n);
         let asked = other.as_deref().unwrap_or(n);
@@ -131,17 +137,17 @@ pub trait Subject: Sync {
         }
     }
 
-    /// Whether a request that the original answers can be on the desk's list.
+    /// Whether a request that the judge answers can be on the desk's list.
     fn on_list(&self, _n: &[u32]) -> bool {
         true
     }
 
-    /// Whether a request that the original answers is timed; those that are have one width.
+    /// Whether a request that the judge answers is timed; those that are have one width.
     fn is_timed(&self, _n: &[u32]) -> bool {
         true
     }
 
-    /// The original's call, to be timed.
+    /// The original's call, to be timed; the judge's where the original has none.
     fn rust_timed(&self) -> Option<Timed> {
         None
     }

@@ -21,6 +21,7 @@
 //! | [`uart`] | all but | `viable_baud_divisors_into`, `MOST_PAIRS` |
 //! | [`pll_settings`] | `clocks::pll`: `PllConfig` and its constructors, `PLL_MUL_MIN`, `PLL_MUL_MAX` | its getters |
 //! | [`clocks`] | `Clocks`, its parts and getters, `ClockModuleId` | `IMAGE_WORDS`, `IoClocksMut`, the PLLs' outputs |
+//! | [`ratios`] | none | all |
 //! | [`gem`] | `Clocks::calculate_gem_0_ref_clock` and `.._1_..`, functions here | |
 //! | [`clock_setup`] | `ArmClocks::new_with_cpu_clock_init`, `DdrClocks::new_with_2x_3x_init`, functions here | |
 //! | [`pll_start`] | `clocks::pll`: `configure_arm_pll` and its five sisters, `BootPllConfig`, `PllType` | all else |
@@ -38,6 +39,7 @@ pub mod i2c;
 pub mod pll_seq;
 pub mod pll_settings;
 pub mod pll_start;
+pub mod ratios;
 pub mod raw;
 mod refusal;
 pub mod time;

@@ -69,6 +69,8 @@ exports! {
     uart_list: fn ogr_uart_list(reference: u32, baud: u32, records: &mut [BaudDivisors]) -> u64;
     /// An evaluation's words.
     clocks: fn ogr_clocks(crystal: u32, image: &[u32], out: &mut [u32]) -> u64;
+    /// The ratios of the four PL clocks: numerator and denominator of each, in row order.
+    ratios: fn ogr_ratios(crystal: u32, image: &[u32], out: &mut [u64]) -> u64;
     /// Sets IO clock `which` in an evaluation's words.
     io_update: fn ogr_io_update(which: u32, hertz: u32, clocks: &mut [u32]) -> u64;
     /// The reference clock of GEM 0 or 1 of an evaluation's words and of the controller's: one word.

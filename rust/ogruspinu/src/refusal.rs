@@ -1,10 +1,10 @@
-//! Why there is no answer, by document 01's numbers.
+//! Why there is no answer, by the numbers of documents 01 and 02.
 use crate::clocks::ClockModuleId;
 use crate::raw;
 use std::error::Error;
 use std::fmt::{self, Display, Formatter};
 
-/// A refusal. Nothing that was lent has changed. 14 to 19 are document 02's, and no call of the library gives them yet.
+/// A refusal. Nothing that was lent has changed. 15 to 19 are document 02's, and no call of the library gives them yet.
 ///
 /// ```
 /// use ogruspinu::{Refusal, pll_settings::PllConfig};
@@ -60,7 +60,7 @@ pub enum Refusal {
 }
 
 impl Refusal {
-    /// The refusal of a number and of what it carries, if document 01 has it.
+    /// The refusal of a number and of what it carries, if the documents have it.
     ///
     /// ```
     /// use ogruspinu::{Refusal, clocks::ClockModuleId};
@@ -94,7 +94,7 @@ impl Refusal {
         })
     }
 
-    /// Document 01's number.
+    /// The documents' number.
     pub const fn number(self) -> u32 {
         match self {
             Self::BadImage => 1,
@@ -183,20 +183,20 @@ pub(crate) fn refused(number: u32, carried: u32) -> Refusal {
 
 /// Lends N words and gives them back filled.
 #[inline]
-pub(crate) fn words<const N: usize>(
-    call: impl FnOnce(&mut [u32]) -> u64,
-) -> Result<[u32; N], Refusal> {
+pub(crate) fn words<T: Copy + Default, const N: usize>(
+    call: impl FnOnce(&mut [T]) -> u64,
+) -> Result<[T; N], Refusal> {
     words_or(refused, call)
 }
 
 /// The same where the call has but one or two refusals, which the caller names itself: that is quicker than to look
 /// the refusal up among all.
 #[inline]
-pub(crate) fn words_or<const N: usize>(
+pub(crate) fn words_or<T: Copy + Default, const N: usize>(
     refused: impl FnOnce(u32, u32) -> Refusal,
-    call: impl FnOnce(&mut [u32]) -> u64,
-) -> Result<[u32; N], Refusal> {
-    let mut words = [0; N];
+    call: impl FnOnce(&mut [T]) -> u64,
+) -> Result<[T; N], Refusal> {
+    let mut words = [T::default(); N];
     match raw::halves(call(&mut words)) {
         (0, _) => Ok(words),
         (number, carried) => {

@@ -15,7 +15,7 @@ returns-2 : tie.Need-returns-2
 returns-2 c = answers (omega arith) (c .before .before .before .before .before .before .before .before .before .new-from-regs .ensures) (ap told (c .before .before .before .before .before .before .before .c .given .1)) (let w = c .before .before .put .ensures .fits (omega arith) in (w .0, cc))
 
 returns-3 : tie.Need-returns-3
-returns-3 c = rw (c .error-code .ensures) (error-handed _ _ _ (c .before .before .e .given .0 .0) (omega arith) (sym (ap told (c .before .before .e .given .1)) ∙ c .before .before .before .before .new-from-regs .ensures))
+returns-3 c = rw (c .error-code .ensures) (error-handed (c .before .before .e .given .0 .0) (omega arith) (sym (ap told (c .before .before .e .given .1)) ∙ c .before .before .before .before .new-from-regs .ensures))
 
 pub clocks-spec : {M : Type 1} → statement M
 clocks-spec =

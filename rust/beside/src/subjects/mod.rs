@@ -10,6 +10,8 @@ mod image;
 mod pll_mul;
 mod pll_seq;
 mod pll_target;
+mod ratios;
+mod ratios_by_hand;
 mod starts;
 mod starts_formula;
 #[cfg(archive)]
@@ -43,5 +45,6 @@ pub const SUBJECTS: &[&dyn Subject] = &[
     &ddr_init::DdrInit,
     &clocks::Clocks,
     &gem::Gem,
+    &ratios::Ratios,
     &update::Update,
 ];

@@ -55,6 +55,10 @@ impl Subject for TwoStageFrequency {
         vec![reference, first, second]
     }
 
+    fn has_original(&self) -> bool {
+        false
+    }
+
     fn ruled(&self, n: &[u32]) -> Option<Answer> {
         let product = u64::from(n[1]) * u64::from(n[2]);
         let hertz = u64::from(n[0]).checked_div(product).unwrap_or(0);

@@ -1,0 +1,61 @@
+-- What the check call tells of a crystal and an image, and which table they have.
+use Prim.Native.Nat.{ℕ, zero, suc, _<_}
+use mathlib.Core.Path.{_≡_}
+use mathlib.Core.List.{List, []}
+use lib.ListN.{replicate}
+use Rattle.refusals.specs.Told.{Told, answered, refused}
+use Rattle.refusals.specs.Number.{ZERO-CLOCK}
+use Rattle.clocks.specs.declared.Clocks.{Clocks}
+use Rattle.evaluation.specs.Evaluated.{evaluated, told-error}
+use Rattle.evaluation.specs.Formulas.{outputs}
+use Rattle.ratios.specs.declared.Above.{Above}
+use Rattle.ratios.specs.declared.Ratio.{Ratio}
+use Rattle.ratios.specs.declared.RatiosCheck.{RatiosCheck}
+use Rattle.ratios.specs.declared.RatiosCheck.the-variants as case
+use Rattle.ratios.specs.declared.RatiosRead.{RatiosRead}
+use Rattle.ratios.specs.declared.RatiosRead.the-variants as read
+use Rattle.ratios.specs.Lowest.{ratio}
+use Rattle.ratios.specs.Table.{Ratios, Six, entry}
+
+-- that there are ratios: an answer with nothing in it
+pub data Fine : Type 0 where
+  fine : Fine
+
+-- documents 01 and 02's number and values for each case of the answer
+abbrev pub told : RatiosCheck → Told Fine
+told case.Fine = answered fine
+told (case.Refused error) = told-error error
+told case.ZeroClock = refused ZERO-CLOCK []
+
+abbrev pub told-read : RatiosRead → Told Above
+told-read (read.Above above) = answered above
+told-read (read.Refused error) = told-error error
+told-read read.ZeroClock = refused ZERO-CLOCK []
+
+-- evaluation's refusals, all of them and in its order; then 14, exactly for a crystal of 0
+abbrev pub then-zero-clock : ℕ → Told Clocks → Told Fine
+then-zero-clock crystal (refused number carried) = refused number carried
+then-zero-clock zero (answered clocks) = refused ZERO-CLOCK []
+then-zero-clock (suc n) (answered clocks) = answered fine
+
+unfoldable pub checked : ℕ → List ℕ → Told Fine
+checked crystal image = then-zero-clock crystal (evaluated crystal image)
+
+-- 0 to 0 everywhere
+abbrev pub none : List (List Ratio)
+none = replicate 4 (replicate 4 (ratio 0 0))
+
+-- the six ratios of an image that is not refused, and else the refusal
+pub data Reads (crystal : ℕ) (image : List ℕ) : Told Above → Type 0 where
+  above : {a : Above} → checked crystal image ≡ answered fine → Six (outputs crystal image) image a → Reads crystal image (answered a)
+  refusal : {number : ℕ} {carried : List ℕ} → checked crystal image ≡ refused number carried → Reads crystal image (refused number carried)
+
+-- the right table
+pub data Right (crystal : ℕ) (image : List ℕ) : List (List Ratio) → Type 0 where
+  accepted : {table : List (List Ratio)} → checked crystal image ≡ answered fine → Ratios (outputs crystal image) image table → Right crystal image table
+  rejected : {number : ℕ} {carried : List ℕ} → checked crystal image ≡ refused number carried → Right crystal image none
+
+-- how the two calls go together, which is the law `tied`
+pub data Tied : Told Fine → List (List Ratio) → Type 0 where
+  no-zero : {table : List (List Ratio)} → ((i j : ℕ) → i < 4 → j < 4 → (0 < entry table i j .num) × (0 < entry table i j .den)) → Tied (answered fine) table
+  all-zero : {number : ℕ} {carried : List ℕ} → Tied (refused number carried) none
