@@ -10,12 +10,12 @@ use Rattle.handing.proofs.Unique.{Single, single, Settled, settled}
 use Rattle.evaluation.specs.declared.ClockReadError.{ClockReadError}
 use Rattle.evaluation.specs.declared.ClockReadError.the-variants.{BadImage, DivisorZero, Overflow}
 use Rattle.evaluation.specs.Evaluated.{told-error}
-use Rattle.ratios.specs.declared.Above.{Above}
-use Rattle.ratios.specs.declared.Ratio.{Ratio}
+use Rattle.ratio_table.specs.declared.Above.{Above}
+use Rattle.ratio_table.specs.declared.Ratio.{Ratio}
 use Rattle.ratios.specs.Checked.{Reads, Right, above, checked, fine}
 use Rattle.ratios.specs.Checked as read
-use Rattle.ratios.specs.Lowest.{ratio}
-use Rattle.ratios.specs.Table.{mirror}
+use Rattle.ratio_table.specs.Lowest.{ratio}
+use Rattle.ratio_table.specs.Table.{mirror}
 use Rattle.ratios.proofs.Checking.{right-table}
 use Rattle.ratios.proofs.Crystal.{small}
 use Rattle.ratios.proofs.Laws.{ratios-of, unique}

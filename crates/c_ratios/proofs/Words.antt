@@ -6,10 +6,10 @@ use native.Mathlib.Omega.{arith}
 use lib.ListN.{drop, getD, length, set}
 use lib.Seq.{ext-getD}
 use Rattle.handing.proofs.Over.{Copying, begun, one-more, all-copied}
-use Rattle.ratios.specs.declared.Ratio.{Ratio}
-use Rattle.ratios.specs.Lowest.{ratio}
-use Rattle.ratios.specs.Table.{entry}
-use Rattle.ratios.proofs.Entries.{four}
+use Rattle.ratio_table.specs.declared.Ratio.{Ratio}
+use Rattle.ratio_table.specs.Lowest.{ratio}
+use Rattle.ratio_table.specs.Table.{entry}
+use Rattle.ratio_table.proofs.Entries.{four}
 use Rattle.c_ratios.specs.Tells.{Square, tableWords}
 
 -- a list of four is its four elements

@@ -4,7 +4,7 @@ use mathlib.Core.Path.{_≡_}
 use mathlib.Core.List.{List, [], _∷_, _++_}
 use lib.ListN.{getD, length}
 use Rattle.refusals.specs.Told.{Told, answered, refused, InWords}
-use Rattle.ratios.specs.declared.Ratio.{Ratio}
+use Rattle.ratio_table.specs.declared.Ratio.{Ratio}
 use Rattle.ratios.specs.Checked.{Right, checked, fine}
 
 abbrev pub rowWords : List Ratio → List ℕ

@@ -1,10 +1,10 @@
 // The exact ratios of the four PL clocks, told as numbers.
 use c_clocks::error_code;
 use handing::no_room;
-use ratios::Ratio;
+use ratio_table::Ratio;
+use ratio_table::table;
 use ratios::RatiosRead;
 use ratios::read_ratios;
-use ratios::table;
 ghost use mathlib.Core.Path.{_≡_};
 ghost use mathlib.Core.List.{_++_};
 ghost use Prim.Native.Nat.{_≤_};

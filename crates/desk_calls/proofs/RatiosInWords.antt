@@ -6,7 +6,7 @@ use lib.ListN.{length, drop, drop-of-length-le, replicate}
 use Rattle.refusals.specs.Told.{Told, answered, refused, InWords}
 use Rattle.handing.specs.Handed.{Given}
 use Rattle.handing.proofs.Handing.{not-zero}
-use Rattle.ratios.specs.declared.Ratio.{Ratio}
+use Rattle.ratio_table.specs.declared.Ratio.{Ratio}
 use Rattle.c_ratios.specs.Tells.{RatiosTells, TableOrRefusal, table, tableWords}
 use Rattle.c_ratios.proofs.Laws.{low, square}
 use Rattle.c_ratios.proofs.Words.{words-long}

@@ -1,5 +1,5 @@
 -- The laws of the greatest common divisor that other crates cite. Assumes nothing.
-use Prim.Native.Nat.{ℕ, zero, suc, _*_, _/_, _%_, _<_, _≤_, _∣_}
+use Prim.Native.Nat.{ℕ, zero, suc, _+_, _*_, _/_, _%_, _<_, _≤_, _∣_}
 use mathlib.Core.Path.{_≡_, refl, sym, ap, subst, _∙_}
 use native.Mathlib.Decide.{decLe}
 use native.Mathlib.Nat.{
@@ -15,9 +15,7 @@ use native.Mathlib.Nat.{
   eq-zero-of-zero-dvd,
   mod-lt,
   mul-dvd-mul-right,
-  mul-comm,
   one-mul,
-  pos-of-dvd-of-pos,
 }
 use native.Mathlib.Omega.{arith}
 use Rattle.gcd.specs.Common.{Greatest, Coprime}
@@ -40,9 +38,20 @@ unique {g = g} {h} x y = dvd-antisymm (y .common g (x .first) (x .second)) (x .c
 pub of-zeros : {g : ℕ} → Greatest 0 0 g → g ≡ 0
 of-zeros x = eq-zero-of-zero-dvd (x .common 0 (dvd-refl 0) (dvd-refl 0))
 
--- of two numbers of which the first is not 0 it is not 0
-pub positive : {a b g : ℕ} → Greatest a b g → 0 < a → 0 < g
-positive x = pos-of-dvd-of-pos (x .first)
+-- it is 0 for no two numbers else
+pub no-divisor : {a b g : ℕ} → Greatest a b g → g ≡ 0 → a + b ≡ 0
+no-divisor {a} {b} x z =
+    omega (arith, eq-zero-of-zero-dvd (subst (λ (d : ℕ). d ∣ a) z (x .first)), eq-zero-of-zero-dvd (subst (λ (d : ℕ). d ∣ b) z (x .second)))
+
+pub some-divisor : {a b g : ℕ} → Greatest a b g → 0 < g → 0 < a + b
+some-divisor {a} {b} {g} x p =
+    elim (decLe (a + b) 0) [
+      | yes z ↦
+          let e : a ≡ 0 = omega arith in
+          let f : b ≡ 0 = omega arith in
+          absurd (omega (arith, p, of-zeros (subst (λ (n : ℕ). Greatest n 0 g) e (subst (λ (n : ℕ). Greatest a n g) f x))))
+      | no z ↦ omega arith
+    ]
 
 -- what is left after dividing both by it has no common divisor but 1
 scaled : (g d : ℕ) {n : ℕ} → g ∣ n → d ∣ n / g → d * g ∣ n

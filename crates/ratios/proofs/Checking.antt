@@ -18,11 +18,13 @@ use Rattle.evaluation.specs.declared.ClockReadError.the-variants.{BadImage, Div
 use Rattle.evaluation.specs.Evaluated.{evaluated, judged, pick-told, told-error}
 use Rattle.evaluation.specs.Formulas.{clocks-of, outputs}
 use Rattle.sources.specs.declared.PllOutputs.{PllOutputs}
-use Rattle.ratios.specs.declared.Above.{Above}
-use Rattle.ratios.specs.Checked.{Fine, fine, Reads, Right, above, accepted, checked, none, refusal, rejected, then-zero-clock}
-use Rattle.ratios.specs.Lowest.{ratio}
-use Rattle.ratios.specs.Table.{Runs, Six, mirror, pl-clock}
-use Rattle.ratios.proofs.Entries.{six}
+use Rattle.ratio_table.specs.declared.Above.{Above}
+use Rattle.ratio_table.specs.declared.Undivided.{Undivided}
+use Rattle.ratio_table.specs.Lowest.{ratio}
+use Rattle.ratio_table.specs.Table.{Runs, Six, mirror, none}
+use Rattle.ratio_table.proofs.Entries.{six}
+use Rattle.ratios.specs.Checked.{Fine, fine, Reads, Right, above, accepted, checked, clock-at, refusal, rejected, then-zero-clock}
+use Rattle.ratios.specs.PlClocks.{pl-clock}
 use Rattle.ratios.proofs.Running.{runs}
 
 -- the PLL outputs as the code takes them from the record
@@ -30,6 +32,10 @@ abbrev outputs-in : Clocks → PllOutputs
 outputs-in c = record { «arm_pll_out» = c .«arm_pll_out»; «ddr_pll_out» = c .«ddr_pll_out»; «io_pll_out» = c .«io_pll_out» }
 
 module _ (crystal : ℕ) (image : List ℕ) where
+  -- the six of the image's PL clocks
+  abbrev SixOf : PllOutputs → Above → Type 0
+  SixOf out a = Six (pl-clock out image 0) (pl-clock out image 1) (pl-clock out image 2) (pl-clock out image 3) a
+
   pub refused-first : (e : ClockReadError) → told-error {A = Clocks} e ≡ evaluated crystal image → told-error {A = Fine} e ≡ checked crystal image
   unfolding checked
   refused-first BadImage h = ap (then-zero-clock crystal) h
@@ -65,12 +71,23 @@ module _ (crystal : ℕ) (image : List ℕ) where
   read-error (DivisorZero id) h = refusal (sym (refused-first (DivisorZero id) h))
   read-error (Overflow id) h = refusal (sym (refused-first (Overflow id) h))
 
-  pub read-six : {c : Clocks} {a : Above} → answered c ≡ evaluated crystal image → (crystal ≡ 0 → ⊥) → Six (outputs-in c) image a → Reads crystal image (answered a)
-  read-six {a = a} h n r = above (sym (then-fine h n)) (subst (λ (k : Clocks). Six (outputs-in k) image a) (evaluates (sym h) .1) r)
+  pub read-six : {c : Clocks} {a : Above} → answered c ≡ evaluated crystal image → (crystal ≡ 0 → ⊥) → SixOf (outputs-in c) a → Reads crystal image (answered a)
+  read-six {a = a} h n r = above (sym (then-fine h n)) (subst (λ (k : Clocks). SixOf (outputs-in k) a) (evaluates (sym h) .1) r)
+
+  -- what the check call accepts, evaluation answers, and every clock runs
+  pub accepted-runs : checked crystal image ≡ answered fine → (i : ℕ) → i < 4 → Runs (clock-at crystal image i)
+  unfolding checked
+  accepted-runs h = by crystal (evaluated crystal image) refl refl h
+    where
+      by : (n : ℕ) (t : Told Clocks) → crystal ≡ n → evaluated crystal image ≡ t → then-zero-clock n t ≡ answered fine →
+          (i : ℕ) → i < 4 → Runs (clock-at crystal image i)
+      by n (refused number carried) e q h = let z : _≡_ {A = ℕ} 0 1 = cc in absurd (omega arith)
+      by zero (answered c) e q h = let z : _≡_ {A = ℕ} 0 1 = cc in absurd (omega arith)
+      by (suc n) (answered c) e q h = runs crystal image (evaluates q .0) (omega (arith, e))
 
   -- and from there to a table
   pub right-table : {a : Above} → Reads crystal image (answered a) → Right crystal image (mirror (ratio 1 1) a)
-  right-table (above ok s) = accepted ok (six (outputs crystal image) image s)
+  right-table (above ok s) = accepted ok (six (clock-at crystal image) (accepted-runs ok) s)
 
   pub right-none : {number : ℕ} {carried : List ℕ} → Reads crystal image (refused number carried) → Right crystal image none
   right-none (refusal no-table) = rejected no-table
@@ -79,19 +96,3 @@ module _ (crystal : ℕ) (image : List ℕ) where
   none-by-error BadImage h = right-none h
   none-by-error (DivisorZero id) h = right-none h
   none-by-error (Overflow id) h = right-none h
-
-  pub running : {c : Clocks} → answered c ≡ evaluated crystal image → (crystal ≡ 0 → ⊥) → (i : ℕ) → i < 4 → Runs (pl-clock (outputs-in c) image i)
-  running h n i k =
-      let e = evaluates (sym h) in
-      subst⁻¹ (λ (c : Clocks). Runs (pl-clock (outputs-in c) image i)) (e .1) (runs crystal image (e .0) (omega arith) i k)
-
-  -- what the check call accepts, evaluation answers, and every clock runs
-  pub accepted-runs : checked crystal image ≡ answered fine → (i : ℕ) → i < 4 → Runs (pl-clock (outputs crystal image) image i)
-  unfolding checked
-  accepted-runs h = by crystal (evaluated crystal image) refl refl h
-    where
-      by : (n : ℕ) (t : Told Clocks) → crystal ≡ n → evaluated crystal image ≡ t → then-zero-clock n t ≡ answered fine →
-          (i : ℕ) → i < 4 → Runs (pl-clock (outputs crystal image) image i)
-      by n (refused number carried) e q h = let z : _≡_ {A = ℕ} 0 1 = cc in absurd (omega arith)
-      by zero (answered c) e q h = let z : _≡_ {A = ℕ} 0 1 = cc in absurd (omega arith)
-      by (suc n) (answered c) e q h = runs crystal image (evaluates q .0) (omega (arith, e))

@@ -18,14 +18,16 @@ use Rattle.sources.specs.Clock.{dual}
 use Rattle.sources.specs.Source.{bypassed, output-of, pll-output}
 use Rattle.sources.proofs.Laws.{multiplied, passed-on}
 use Rattle.evaluation.specs.Formulas.{outputs}
-use Rattle.ratios.specs.declared.Ratio.{Ratio}
-use Rattle.ratios.specs.declared.Undivided.{Undivided}
-use Rattle.ratios.specs.Table.{Between, Runs, entry, pl-clock, pl-words}
-use Rattle.ratios.specs.Checked.{fine, Right, checked}
+use Rattle.ratio_table.specs.declared.Ratio.{Ratio}
+use Rattle.ratio_table.specs.declared.Undivided.{Undivided}
+use Rattle.ratio_table.specs.Table.{Between, Runs, entry, over}
+use Rattle.ratio_table.proofs.Entries.{same-table}
+use Rattle.ratio_table.proofs.Laws.{one-between}
+use Rattle.ratio_table.proofs.Lowest.{turned, unscaled, within}
+use Rattle.ratios.specs.PlClocks.{pl-words}
+use Rattle.ratios.specs.Checked.{fine, Right, checked, clock-at}
 use Rattle.ratios.proofs.Checking.{accepted-runs}
-use Rattle.ratios.proofs.Entries.{same-table}
-use Rattle.ratios.proofs.Laws.{one-between, ratios-of}
-use Rattle.ratios.proofs.Lowest.{turned, unscaled, within}
+use Rattle.ratios.proofs.Laws.{ratios-of}
 use Rattle.ratios.proofs.Running.{product-small}
 
 -- a PLL gives the crystal, or FDIV times the crystal
@@ -59,7 +61,7 @@ factors a b p = (
 module _ (image : List ℕ) where
   -- PL clock i at a crystal of 1 Hz
   abbrev bare : ℕ → Undivided
-  bare = pl-clock (outputs 1 image) image
+  bare = clock-at 1 image
 
   source-scaled : (crystal : ℕ) (pll : PllType) → output-of (outputs crystal image) pll ≡ crystal * output-of (outputs 1 image) pll
   source-scaled crystal Arm = times-crystal crystal (word image ARM-PLL-CTRL)
@@ -71,11 +73,11 @@ module _ (image : List ℕ) where
   source-small Ddr = factor-small (word image DDR-PLL-CTRL)
   source-small Io = factor-small (word image IO-PLL-CTRL)
 
-  most : (i j : ℕ) → bare i .source * bare j .product ≤ 504063
+  most : (i j : ℕ) → over (bare i) (bare j) ≤ 504063
   most i j = mul-le-mul {n₂ = 127} {m₂ = 3969} (source-small (dual (word image (getD pl-words i 0)) .source)) (product-small (word image (getD pl-words j 0)))
 
   module _ (crystal : ℕ) (ok : checked crystal image ≡ answered fine) where
-    scaled : (i j : ℕ) → pl-clock (outputs crystal image) image i .source * bare j .product ≡ crystal * (bare i .source * bare j .product)
+    scaled : (i j : ℕ) → over (clock-at crystal image i) (clock-at crystal image j) ≡ crystal * over (bare i) (bare j)
     scaled i j =
         ap (λ (n : ℕ). n * bare j .product) (source-scaled crystal (dual (word image (getD pl-words i 0)) .source))
         ∙ mul-assoc crystal (bare i .source) (bare j .product)
@@ -90,7 +92,7 @@ module _ (image : List ℕ) where
       -- the entries are the ratios at 1 Hz
       pub at-one : Between (bare i) (bare j) (entry t i j)
       at-one =
-          unscaled crystal (bare i .source * bare j .product) (bare j .source * bare i .product) (factor-runs i h .0)
+          unscaled crystal (over (bare i) (bare j)) (over (bare j) (bare i)) (factor-runs i h .0)
           (rw (scaled i j, scaled j i) at (ratios-of crystal image ok right .each i h j k))
 
       -- no number is above 127 times 63 times 63

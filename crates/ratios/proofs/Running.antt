@@ -1,11 +1,12 @@
 -- Where no check is broken and the crystal is not 0, every PL clock runs: no source and no product is 0. Assumes nothing.
-use Prim.Native.Nat.{ℕ, _<_, _≤_}
+use Prim.Native.Nat.{ℕ, _*_, _^_, _<_, _≤_}
 use mathlib.Core.Path.{_≡_, refl, sym, subst⁻¹}
 use mathlib.Core.Bool.{Bool, true, false}
 use mathlib.Core.List.{List}
 use native.Mathlib.Nat.{mul-le-mul, mul-pos, pos-of-ne-zero}
 use native.Mathlib.Omega.{arith}
 use borrow.Author.Tests.{eqb-true, eqb-false}
+use lib.Dec.{lit≤}
 use lib.ListN.{getD}
 use Rattle.fields.specs.declared.Field.{Field}
 use Rattle.fields.specs.Word.{read-field}
@@ -22,8 +23,9 @@ use Rattle.checks.specs.declared.Reason.the-variants.{Nothing}
 use Rattle.checks.specs.Check.{broken, checks, fits, reason, zero}
 use Rattle.checks.proofs.Laws.{all-clear, holds}
 use Rattle.evaluation.specs.Formulas.{outputs}
-use Rattle.ratios.specs.Table.{Runs, pl-clock, pl-words}
-use Rattle.ratios.proofs.Entries.{four}
+use Rattle.ratio_table.specs.Table.{Runs}
+use Rattle.ratio_table.proofs.Entries.{four}
+use Rattle.ratios.specs.PlClocks.{pl-clock, pl-words}
 
 -- a PLL gives something, bypassed or not
 pub pll-runs : (crystal control : ℕ) → 0 < crystal → 0 < read-field control FDIV → 0 < pll-output crystal control
@@ -34,10 +36,16 @@ pll-runs crystal control p q = by (bypassed control) refl
     by false e =
         omega (arith, mul-pos p q, multiplied crystal control (eqb-false (read-field control BYPASS-FORCE) 1 e))
 
--- each divisor has six bits: 63 by 63 at most
+-- the product of two fields of at most six bits is at most 63 by 63
+pub six-bits : (control : ℕ) (f g : Field) → 2 ^ (f .width) ≤ 64 → 2 ^ (g .width) ≤ 64 → read-field control f * read-field control g ≤ 3969
+six-bits control f g p q = mul-le-mul {n₂ = 63} {m₂ = 63} (omega (arith, read-lt control f, p)) (omega (arith, read-lt control g, q))
+
 pub product-small : (control : ℕ) → dual control .product ≤ 3969
-product-small control =
-    mul-le-mul {n₂ = 63} {m₂ = 63} (omega (arith, read-lt control DIVISOR)) (omega (arith, read-lt control DIVISOR-1))
+product-small control = six-bits control DIVISOR DIVISOR-1 (lit≤ tt) (lit≤ tt)
+
+-- as the code has them
+pub product-fits : {a b : ℕ} (control : ℕ) (f g : Field) → a ≡ read-field control f → b ≡ read-field control g → 2 ^ (f .width) ≤ 64 → 2 ^ (g .width) ≤ 64 → a * b < 2 ^ 32
+product-fits control f g e h p q = rw (e, h) (omega (arith, six-bits control f g p q))
 
 module _ (crystal : ℕ) (image : List ℕ) (unbroken : reason crystal image ≡ Nothing) where
   check-holds : (k : ℕ) → k < 26 → broken crystal image (getD checks k (fits 0)) ≡ false

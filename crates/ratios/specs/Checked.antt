@@ -2,20 +2,20 @@
 use Prim.Native.Nat.{ℕ, zero, suc, _<_}
 use mathlib.Core.Path.{_≡_}
 use mathlib.Core.List.{List, []}
-use lib.ListN.{replicate}
 use Rattle.refusals.specs.Told.{Told, answered, refused}
 use Rattle.refusals.specs.Number.{ZERO-CLOCK}
 use Rattle.clocks.specs.declared.Clocks.{Clocks}
 use Rattle.evaluation.specs.Evaluated.{evaluated, told-error}
 use Rattle.evaluation.specs.Formulas.{outputs}
-use Rattle.ratios.specs.declared.Above.{Above}
-use Rattle.ratios.specs.declared.Ratio.{Ratio}
+use Rattle.ratio_table.specs.declared.Above.{Above}
+use Rattle.ratio_table.specs.declared.Ratio.{Ratio}
+use Rattle.ratio_table.specs.declared.Undivided.{Undivided}
+use Rattle.ratio_table.specs.Table.{Ratios, Six, entry, none}
 use Rattle.ratios.specs.declared.RatiosCheck.{RatiosCheck}
 use Rattle.ratios.specs.declared.RatiosCheck.the-variants as case
 use Rattle.ratios.specs.declared.RatiosRead.{RatiosRead}
 use Rattle.ratios.specs.declared.RatiosRead.the-variants as read
-use Rattle.ratios.specs.Lowest.{ratio}
-use Rattle.ratios.specs.Table.{Ratios, Six, entry}
+use Rattle.ratios.specs.PlClocks.{pl-clock}
 
 -- that there are ratios: an answer with nothing in it
 pub data Fine : Type 0 where
@@ -41,18 +41,18 @@ then-zero-clock (suc n) (answered clocks) = answered fine
 unfoldable pub checked : ℕ → List ℕ → Told Fine
 checked crystal image = then-zero-clock crystal (evaluated crystal image)
 
--- 0 to 0 everywhere
-abbrev pub none : List (List Ratio)
-none = replicate 4 (replicate 4 (ratio 0 0))
+-- PL clock i at a crystal
+abbrev pub clock-at : ℕ → List ℕ → ℕ → Undivided
+clock-at crystal image = pl-clock (outputs crystal image) image
 
 -- the six ratios of an image that is not refused, and else the refusal
 pub data Reads (crystal : ℕ) (image : List ℕ) : Told Above → Type 0 where
-  above : {a : Above} → checked crystal image ≡ answered fine → Six (outputs crystal image) image a → Reads crystal image (answered a)
+  above : {a : Above} → checked crystal image ≡ answered fine → Six (clock-at crystal image 0) (clock-at crystal image 1) (clock-at crystal image 2) (clock-at crystal image 3) a → Reads crystal image (answered a)
   refusal : {number : ℕ} {carried : List ℕ} → checked crystal image ≡ refused number carried → Reads crystal image (refused number carried)
 
--- the right table
+-- the right table; 0 to 0 everywhere after a refusal
 pub data Right (crystal : ℕ) (image : List ℕ) : List (List Ratio) → Type 0 where
-  accepted : {table : List (List Ratio)} → checked crystal image ≡ answered fine → Ratios (outputs crystal image) image table → Right crystal image table
+  accepted : {table : List (List Ratio)} → checked crystal image ≡ answered fine → Ratios (clock-at crystal image) table → Right crystal image table
   rejected : {number : ℕ} {carried : List ℕ} → checked crystal image ≡ refused number carried → Right crystal image none
 
 -- how the two calls go together, which is the law `tied`

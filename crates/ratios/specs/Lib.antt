@@ -1,9 +1,9 @@
--- Exact ratios between the four PL clocks: document 02, W-201. Definitions:
---     Lowest    a ratio in lowest terms, and the same turned round
---     Table     what a PL clock is before any division, and the table of four by four
---     Checked   what the check call tells, and what the table is for every crystal and image
+-- Exact ratios between the four PL clocks of an image: document 02, W-201. Definitions:
+--     PlClocks    what PL clock i is before any division
+--     Checked     what the check call tells, and which table a crystal and an image have
 -- Laws, in proofs/ (a crate above writes Rattle.ratios.proofs.Laws):
---     Laws      `unique`, one table; `diagonal`, `across`, `no-zero`, `tied`; `any-crystal` and `chained`
+--     Laws        `unique`, one table; `tied`, the table and the check call; `one-reading`
+--     Checking    `accepted-runs`, by which the laws of crate ratio_table hold of an accepted image
+--     Crystal     `any-crystal`, two crystals that are both accepted have one table; `small`, how large its numbers are
 pub mod Checked
-pub mod Lowest
-pub mod Table
+pub mod PlClocks

@@ -2,11 +2,11 @@
 use borrow.Author.Needs.{needs}
 use mathlib.Core.Path.{ap, ap₂, _∙_}
 use Prim.Native.Nat.{ℕ, _*_}
-use native.Mathlib.Omega.{arith}
+use lib.Dec.{lit≤}
 use Rattle.sources.proofs.Laws.{source}
-use Rattle.ratios.specs.declared.Undivided.{Undivided}
-use Rattle.ratios.specs.Table.{undivided}
-use Rattle.ratios.proofs.Running.{product-small}
+use Rattle.ratio_table.specs.declared.Undivided.{Undivided}
+use Rattle.ratios.specs.PlClocks.{undivided}
+use Rattle.ratios.proofs.Running.{product-fits}
 use Rattle.ratios.proofs.clock_at.Statement.{statement}
 use Rattle.ratios.proofs.clock_at.Tie as tie
 
@@ -29,7 +29,7 @@ read-field-requires-2 : tie.Need-read-field-requires-2
 read-field-requires-2 c κs = search needs
 
 mul-t11 : tie.Need-mul-t11
-mul-t11 c = let w = c .before .before .before .before .word .result in record { fits = rw (c .before .read-field .ensures, c .read-field2 .ensures) (omega (arith, product-small w)) }
+mul-t11 c = record { fits = product-fits _ _ _ (c .before .read-field .ensures) (c .read-field2 .ensures) (lit≤ tt) (lit≤ tt) }
 
 returns : tie.Need-returns
 returns c =

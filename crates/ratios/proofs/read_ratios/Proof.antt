@@ -3,7 +3,7 @@ use borrow.Author.Needs.{needs}
 use mathlib.Core.Path.{sym, ap, _∙_}
 use Rattle.evaluation.specs.Evaluated.{told}
 use Rattle.ratios.specs.Checked.{refusal}
-use Rattle.ratios.proofs.Checking.{read-error, read-six, running, then-zero}
+use Rattle.ratios.proofs.Checking.{read-error, read-six, then-zero}
 use Rattle.ratios.proofs.read_ratios.Statement.{statement}
 use Rattle.ratios.proofs.read_ratios.Tie as tie
 
@@ -11,11 +11,6 @@ returns : tie.Need-returns
 returns c =
     let k = c .before .before in
     refusal (sym (then-zero _ _ (sym (ap told (k .clocks .given .1)) ∙ k .before .before .new-from-regs .ensures) (c .if1 .taken)))
-
-compared-requires : tie.Need-compared-requires
-compared-requires c κs =
-    let k = c .before .before in
-    running _ _ (sym (ap told (k .clocks .given .1)) ∙ k .before .before .new-from-regs .ensures) (c .if1 .left)
 
 returns-2 : tie.Need-returns-2
 returns-2 c =
@@ -25,7 +20,7 @@ returns-2 c =
 returns-3 : tie.Need-returns-3
 returns-3 c =
     let k = c .before .before .before in
-    read-six _ _ (sym (ap told (k .clocks .given .1)) ∙ k .before .before .new-from-regs .ensures) (c .before .if1 .left) (c .compared .ensures)
+    read-six _ _ (sym (ap told (k .clocks .given .1)) ∙ k .before .before .new-from-regs .ensures) (c .before .if1 .left) (c .above-of .ensures)
 
 pub read-ratios-spec : {M : Type 1} → statement M
 read-ratios-spec =
@@ -35,6 +30,6 @@ read-ratios-spec =
     (λ c. search needs)
     (λ c. search needs)
     returns
-    compared-requires
+    (λ c κs. search needs)
     returns-2
     returns-3)

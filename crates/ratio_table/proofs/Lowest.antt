@@ -1,11 +1,12 @@
 -- The laws of a ratio in lowest terms. Assumes nothing.
-use Prim.Native.Nat.{ℕ, _*_, _/_, _<_, _≤_, _∣_}
+use Prim.Native.Nat.{ℕ, _+_, _*_, _/_, _^_, _<_, _≤_, _∣_}
 use mathlib.Core.Path.{_≡_, refl, sym, ap, ap₂, subst, _∙_}
 use native.Mathlib.Decide.{decLe}
 use native.Mathlib.Nat.{
   div-mul-cancel,
   dvd-antisymm,
   dvd-mul-right,
+  dvd-refl,
   dvd-zero,
   eq-of-mul-eq-mul-left,
   eq-of-mul-eq-mul-right,
@@ -13,6 +14,7 @@ use native.Mathlib.Nat.{
   le-of-dvd,
   mul-assoc,
   mul-comm,
+  mul-le-mul,
   mul-left-comm,
   mul-mul-mul-comm,
   mul-one,
@@ -24,8 +26,12 @@ use native.Mathlib.Nat.{
 use native.Mathlib.Omega.{arith}
 use Rattle.gcd.specs.Common.{Greatest, Coprime}
 use Rattle.gcd.proofs.Laws.{divides-other, left-over}
-use Rattle.ratios.specs.declared.Ratio.{Ratio}
-use Rattle.ratios.specs.Lowest.{Lowest, ratio, inverse}
+use Rattle.ratio_table.specs.declared.Ratio.{Ratio}
+use Rattle.ratio_table.specs.Lowest.{Lowest, Reduced, inverse, no-terms, ratio, to-lowest}
+
+-- a product of two numbers of 32 bits has 64
+pub wide : {a b : ℕ} → a < 2 ^ 32 → b < 2 ^ 32 → a * b < 2 ^ 64
+wide {a} {b} p q = omega (arith, mul-le-mul {n₁ = a} {m₁ = b} {n₂ = 4294967295} {m₂ = 4294967295} (omega arith) (omega arith))
 
 -- both numbers over their greatest common divisor
 pub reduced : {x y g : ℕ} → Greatest x y g → 0 < g → Lowest x y (ratio (x / g) (y / g))
@@ -106,3 +112,38 @@ within {x} {y} {r} p h =
     le-of-dvd p
     (divides-other (r .num) (r .den) x (h .lowest)
     (subst (λ (n : ℕ). r .num ∣ n) (h .equal ∙ mul-comm x (r .den)) (dvd-mul-right (r .num) y)))
+
+-- numbers that are not both 0 are reduced to lowest terms
+pub of-reduced : {x y : ℕ} {r : Ratio} → 0 < x → Reduced x y r → Lowest x y r
+of-reduced p (to-lowest q h) = h
+of-reduced p (no-terms z) = absurd (omega arith)
+
+-- of 0 and another number it is 0 to 1; so any two numbers have one
+zero-first : {y : ℕ} {r : Ratio} → 0 < y → Lowest 0 y r → r ≡ ratio 0 1
+zero-first {y} {r} p h = ap₂ ratio num den
+  where
+    num : r .num ≡ 0
+    num = product-zero y (r .num) (mul-comm y (r .num) ∙ h .equal ∙ zero-mul (r .den)) p
+
+    den : r .den ≡ 1
+    den = h .lowest (r .den) (subst (λ (n : ℕ). r .den ∣ n) (sym num) (dvd-zero (r .den))) (dvd-refl (r .den))
+
+first-zero : {x y : ℕ} {r : Ratio} → x ≡ 0 → 0 < x + y → Lowest x y r → r ≡ ratio 0 1
+first-zero {x} {y} {r} e p h = zero-first (omega (arith, p, e)) (subst (λ (n : ℕ). Lowest n y r) e h)
+
+one-lowest : {x y : ℕ} {r s : Ratio} → 0 < x + y → Lowest x y r → Lowest x y s → r ≡ s
+one-lowest {x} {y} p h k =
+    elim (decLe x 0) [
+      | yes z ↦ let e : x ≡ 0 = omega arith in first-zero e p h ∙ sym (first-zero e p k)
+      | no q ↦
+          elim (decLe y 0) [
+            | yes z ↦ let e : y ≡ 0 = omega arith in ap inverse (first-zero e (omega arith) (turned h) ∙ sym (first-zero e (omega arith) (turned k)))
+            | no o ↦ one-ratio (omega arith) (omega arith) h k
+          ]
+    ]
+
+pub one-reduced : {x y : ℕ} {r s : Ratio} → Reduced x y r → Reduced x y s → r ≡ s
+one-reduced (to-lowest p h) (to-lowest _ k) = one-lowest p h k
+one-reduced (to-lowest p h) (no-terms z) = absurd (omega arith)
+one-reduced (no-terms z) (to-lowest p k) = absurd (omega arith)
+one-reduced (no-terms _) (no-terms _) = refl

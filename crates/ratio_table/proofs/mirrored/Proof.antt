@@ -1,7 +1,7 @@
--- `ratios::mirrored` meets its contract. Assumes nothing.
+-- `ratio_table::mirrored` meets its contract. Assumes nothing.
 use borrow.Author.Needs.{needs}
-use Rattle.ratios.proofs.mirrored.Statement.{statement}
-use Rattle.ratios.proofs.mirrored.Tie as tie
+use Rattle.ratio_table.proofs.mirrored.Statement.{statement}
+use Rattle.ratio_table.proofs.mirrored.Tie as tie
 
 returns : tie.Need-returns
 returns c =
