@@ -1,7 +1,7 @@
 -- What evaluation refuses is handed back with its number, what it carries, and no word, by every call that refuses as it does.
 -- Assumes nothing.
 use Prim.Native.Nat.{ℕ, _≤_}
-use mathlib.Core.Path.{_≡_, refl}
+use mathlib.Core.Path.{refl}
 use mathlib.Core.List.{List}
 use lib.ListN.{length}
 use Rattle.refusals.specs.Told.{Told, InWords}

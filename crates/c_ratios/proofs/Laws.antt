@@ -5,7 +5,7 @@ use mathlib.Core.List.{List}
 use native.Mathlib.Decide.{decLe}
 use native.Mathlib.Omega.{arith}
 use lib.ListN.{getD, List·getD-eq-default}
-use Rattle.refusals.specs.Told.{Told, answered, refused}
+use Rattle.refusals.specs.Told.{answered, refused}
 use Rattle.handing.proofs.Unique.{Single, single, Settled, settled}
 use Rattle.evaluation.specs.declared.ClockReadError.{ClockReadError}
 use Rattle.evaluation.specs.declared.ClockReadError.the-variants.{BadImage, DivisorZero, Overflow}
@@ -15,11 +15,11 @@ use Rattle.ratio_table.specs.declared.Ratio.{Ratio}
 use Rattle.ratios.specs.Checked.{Reads, Right, above, checked, fine}
 use Rattle.ratios.specs.Checked as read
 use Rattle.ratio_table.specs.Lowest.{ratio}
-use Rattle.ratio_table.specs.Table.{mirror}
+use Rattle.ratio_table.specs.Table.{Square, mirror}
 use Rattle.ratios.proofs.Checking.{right-table}
 use Rattle.ratios.proofs.Crystal.{small}
 use Rattle.ratios.proofs.Laws.{ratios-of, unique}
-use Rattle.c_ratios.specs.Tells.{RatiosTells, Square, TableOrRefusal, refusal, table, tableWords}
+use Rattle.c_ratios.specs.Tells.{RatiosTells, TableOrRefusal, refusal, table, tableWords}
 use Rattle.c_ratios.proofs.Words.{at, words-long}
 
 module _ (crystal : ℕ) (image : List ℕ) where
@@ -35,9 +35,8 @@ module _ (crystal : ℕ) (image : List ℕ) where
   pub ratios : Settled 32 (RatiosTells crystal image)
   ratios = settled one
 
-  -- the table of an accepted image has four rows of four
   pub square : {t : List (List Ratio)} → checked crystal image ≡ answered fine → Right crystal image t → Square t
-  square ok r = let s = ratios-of crystal image ok r in record { rows = s .rows; columns = s .columns }
+  square ok r = ratios-of crystal image ok r .square
 
   -- every number of it has 32 bits, and far fewer
   pub low : {t : List (List Ratio)} → checked crystal image ≡ answered fine → Right crystal image t → (k : ℕ) → getD (tableWords t) k 0 < 2 ^ 32

@@ -1,6 +1,6 @@
 -- A table's numbers by their places. Assumes nothing.
 use Prim.Native.Nat.{ℕ, _+_, _*_, _/_, _%_, _<_, _≤_}
-use mathlib.Core.Path.{_≡_, refl, sym, ap, subst, subst⁻¹, _∙_}
+use mathlib.Core.Path.{_≡_, refl, sym, ap, subst, subst⁻¹}
 use mathlib.Core.List.{List, [], _∷_, _++_}
 use native.Mathlib.Omega.{arith}
 use lib.ListN.{drop, getD, length, set}
@@ -8,9 +8,9 @@ use lib.Seq.{ext-getD}
 use Rattle.handing.proofs.Over.{Copying, begun, one-more, all-copied}
 use Rattle.ratio_table.specs.declared.Ratio.{Ratio}
 use Rattle.ratio_table.specs.Lowest.{ratio}
-use Rattle.ratio_table.specs.Table.{entry}
+use Rattle.ratio_table.specs.Table.{Square, entry}
 use Rattle.ratio_table.proofs.Entries.{four}
-use Rattle.c_ratios.specs.Tells.{Square, tableWords}
+use Rattle.c_ratios.specs.Tells.{tableWords}
 
 -- a list of four is its four elements
 listed : {A : Type 0} (d : A) (l : List A) → length l ≡ 4 → l ≡ getD l 0 d ∷ getD l 1 d ∷ getD l 2 d ∷ getD l 3 d ∷ []

@@ -1,8 +1,7 @@
 -- What the ratios of an image are, as numbers: numerator and denominator of each, in row order, or the refusal.
-use Prim.Native.Nat.{ℕ, _<_}
+use Prim.Native.Nat.{ℕ}
 use mathlib.Core.Path.{_≡_}
 use mathlib.Core.List.{List, [], _∷_, _++_}
-use lib.ListN.{getD, length}
 use Rattle.refusals.specs.Told.{Told, answered, refused, InWords}
 use Rattle.ratio_table.specs.declared.Ratio.{Ratio}
 use Rattle.ratios.specs.Checked.{Right, checked, fine}
@@ -22,10 +21,3 @@ pub data TableOrRefusal (crystal : ℕ) (image : List ℕ) : Told (List (List Ra
 
 abbrev pub RatiosTells : ℕ → List ℕ → Told (List ℕ) → Type 0
 RatiosTells crystal image = InWords tableWords (TableOrRefusal crystal image)
-
--- ---- what the steps promise each other
-
--- four rows of four
-pub record Square (t : List (List Ratio)) : Type 0 where
-  pub rows : length t ≡ 4
-  pub columns : (i : ℕ) → i < 4 → length (getD t i []) ≡ 4

@@ -10,7 +10,8 @@ ghost use mathlib.Core.List.{_++_};
 ghost use Prim.Native.Nat.{_≤_};
 ghost use lib.ListN.{length, drop};
 ghost use Rattle.handing.specs.Handed.{Handed};
-ghost use Rattle.c_ratios.specs.Tells.{RatiosTells, Square, tableWords};
+ghost use Rattle.ratio_table.specs.Table.{Square};
+ghost use Rattle.c_ratios.specs.Tells.{RatiosTells, tableWords};
 
 fn put_table(t: [[Ratio; 4]; 4], out: &mut [u64])
     requires { ⌜ Square t × (32 ≤ length (now out)) ⌝ }

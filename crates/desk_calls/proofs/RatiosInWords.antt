@@ -1,9 +1,9 @@
 -- The ratios in words of 32 bits: what is refused is refused, and else the table's numbers are the row's, each short enough. Assumes nothing.
-use Prim.Native.Nat.{ℕ, _<_, _^_}
-use mathlib.Core.Path.{_≡_, refl, sym, ap, subst, subst⁻¹, _∙_}
-use mathlib.Core.List.{List, [], _∷_, _++_, append-nil}
-use lib.ListN.{length, drop, drop-of-length-le, replicate}
-use Rattle.refusals.specs.Told.{Told, answered, refused, InWords}
+use Prim.Native.Nat.{ℕ}
+use mathlib.Core.Path.{_≡_, refl, ap, subst⁻¹, _∙_}
+use mathlib.Core.List.{List, _++_, append-nil}
+use lib.ListN.{length, drop, replicate}
+use Rattle.refusals.specs.Told.{answered, InWords}
 use Rattle.handing.specs.Handed.{Given}
 use Rattle.handing.proofs.Handing.{not-zero}
 use Rattle.ratio_table.specs.declared.Ratio.{Ratio}

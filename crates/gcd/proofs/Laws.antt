@@ -1,6 +1,6 @@
 -- The laws of the greatest common divisor that other crates cite. Assumes nothing.
 use Prim.Native.Nat.{ℕ, zero, suc, _+_, _*_, _/_, _%_, _<_, _≤_, _∣_}
-use mathlib.Core.Path.{_≡_, refl, sym, ap, subst, _∙_}
+use mathlib.Core.Path.{_≡_, sym, ap, subst, _∙_}
 use native.Mathlib.Decide.{decLe}
 use native.Mathlib.Nat.{
   dvd-antisymm,

@@ -1,5 +1,5 @@
 -- What a call hands back as numbers: one of 64 bits, and a lent row of words. Programs in C get just this, and the desk prints it.
-use Prim.Native.Nat.{ℕ, _+_, _*_, _%_, _^_}
+use Prim.Native.Nat.{ℕ, _+_, _*_, _^_}
 use mathlib.Core.Path.{_≡_}
 use mathlib.Core.List.{List, [], _∷_, _++_}
 use lib.ListN.{length, drop}
@@ -20,14 +20,6 @@ code number carried = number + first carried * 2 ^ 32
 abbrev pub coded : {A : Type 0} → Told A → ℕ
 coded (answered a) = 0
 coded (refused number carried) = code number carried
-
--- Words put at the front of a row, with what lies behind them as it was; in a row too short for them nothing is put. What the refusal
--- carries has 32 bits.
-abbrev pub Laid : List ℕ → List ℕ → ℕ → List ℕ → Type 0
-Laid words before r after =
-    Within (length words) (length before)
-    ((r ≡ 0) × (after ≡ words ++ drop (length words) before))
-    ((r ≡ code NO-ROOM (length words % 2 ^ 32 ∷ [])) × (after ≡ before))
 
 -- An answer is 0, with its words at the front of the row and what lies behind them as it was. A refusal leaves the row as it was.
 -- `Tells` is what the call tells.

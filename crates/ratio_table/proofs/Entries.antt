@@ -11,7 +11,7 @@ use Rattle.ratio_table.specs.declared.Above.{Above}
 use Rattle.ratio_table.specs.declared.Ratio.{Ratio}
 use Rattle.ratio_table.specs.declared.Undivided.{Undivided}
 use Rattle.ratio_table.specs.Lowest.{ratio}
-use Rattle.ratio_table.specs.Table.{Between, Compared, Ratios, Runs, Six, entry, mirror}
+use Rattle.ratio_table.specs.Table.{Between, Compared, Ratios, Runs, Six, Square, entry, mirror}
 use Rattle.ratio_table.proofs.Lowest.{itself, of-reduced, turned}
 
 -- what holds of 0, 1, 2 and 3 holds of every number below 4
@@ -29,8 +29,7 @@ six clock runs {a} s =
     let t = mirror (ratio 1 1) a in
     let row : ℕ → ℕ → Type 0 = λ i j. Between (clock i) (clock j) (entry t i j) in
     record {
-      rows = refl;
-      columns = four (λ (i : ℕ). length (getD t i []) ≡ 4) refl refl refl refl;
+      square = record { rows = refl; columns = four (λ (i : ℕ). length (getD t i []) ≡ 4) refl refl refl refl };
       each =
           four (λ (i : ℕ). (j : ℕ) → j < 4 → row i j)
           (four (row 0) (itself _) r01 r02 r03)
@@ -62,7 +61,7 @@ six clock runs {a} s =
 
 -- two tables that agree in every entry are one
 pub same-table :
-    {clock other : ℕ → Undivided} {t u : List (List Ratio)} → Ratios clock t → Ratios other u →
+    {t u : List (List Ratio)} → Square t → Square u →
     ((i j : ℕ) → i < 4 → j < 4 → entry t i j ≡ entry u i j) → t ≡ u
 same-table {t = t} {u} r s e =
     ext-getD [] t u (r .rows ∙ sym (s .rows)) λ i h.

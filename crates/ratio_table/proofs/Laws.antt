@@ -1,13 +1,13 @@
 -- The laws of the table of four clocks that run. Assumes nothing.
 use Prim.Native.Nat.{ℕ, _*_, _<_}
-use mathlib.Core.Path.{_≡_, refl, sym, ap, _∙_}
+use mathlib.Core.Path.{_≡_, sym, ap, _∙_}
 use mathlib.Core.List.{List}
 use native.Mathlib.Nat.{mul-comm, mul-mul-mul-comm, mul-pos}
 use Rattle.ratio_table.specs.declared.Above.{Above}
 use Rattle.ratio_table.specs.declared.Ratio.{Ratio}
 use Rattle.ratio_table.specs.declared.Undivided.{Undivided}
 use Rattle.ratio_table.specs.Lowest.{ratio, inverse}
-use Rattle.ratio_table.specs.Table.{Between, Ratios, Runs, Six, entry}
+use Rattle.ratio_table.specs.Table.{Between, Ratios, Runs, Six, entry, over}
 use Rattle.ratio_table.proofs.Entries.{same-table}
 use Rattle.ratio_table.proofs.Lowest.{cancelled, crossed, itself, no-zero, one-ratio, one-reduced, times, turned}
 
@@ -15,29 +15,22 @@ use Rattle.ratio_table.proofs.Lowest.{cancelled, crossed, itself, no-ze
 pub one-between : {a b : Undivided} {r s : Ratio} → Runs a → Runs b → Between a b r → Between a b s → r ≡ s
 one-between p q = one-ratio (mul-pos (p .0) (q .1)) (mul-pos (q .0) (p .1))
 
--- clock a to b times b to c is a to c
+-- clock a to b times b to c is a to c: b's source and product stand on both sides
+through : (a b c : Undivided) → over b a * over c b ≡ over b b * over c a
+through a b c =
+    ap (λ (n : ℕ). over b a * n) (mul-comm (c .source) (b .product))
+    ∙ mul-mul-mul-comm (b .source) (a .product) (b .product) (c .source)
+    ∙ ap (λ (n : ℕ). over b b * n) (mul-comm (a .product) (c .source))
+
 chain : {a b c : Undivided} (r s t : Ratio) → Runs a → Runs b → Runs c → Between a b r → Between b c s → Between a c t →
     r .num * s .num * t .den ≡ t .num * (r .den * s .den)
 chain {a} {b} {c} r s t p q o hr hs ht =
     crossed (mul-pos (p .0) (o .1)) (mul-pos (o .0) (p .1)) (r .num * s .num) (r .den * s .den) (t .num) (t .den)
-    (cancelled (b .source * b .product) (a .source * c .product) (c .source * a .product) (r .num * s .num) (r .den * s .den) (mul-pos (q .0) (q .1))
-    (ap (λ (n : ℕ). r .num * s .num * n) (sym under) ∙ product ∙ ap (λ (n : ℕ). n * (r .den * s .den)) over))
+    (cancelled (over b b) (over a c) (over c a) (r .num * s .num) (r .den * s .den) (mul-pos (q .0) (q .1))
+    (ap (λ (n : ℕ). r .num * s .num * n) (sym (through a b c))
+    ∙ times (over a b) (over b a) (over b c) (over c b) (r .num) (r .den) (s .num) (s .den) (hr .equal) (hs .equal)
+    ∙ ap (λ (n : ℕ). n * (r .den * s .den)) (mul-comm (over a b) (over b c) ∙ through c b a)))
     (ht .equal)
-  where
-    product : r .num * s .num * (b .source * a .product * (c .source * b .product)) ≡ a .source * b .product * (b .source * c .product) * (r .den * s .den)
-    product = times _ _ _ _ (r .num) (r .den) (s .num) (s .den) (hr .equal) (hs .equal)
-
-    under : b .source * a .product * (c .source * b .product) ≡ b .source * b .product * (c .source * a .product)
-    under =
-        ap (λ (n : ℕ). b .source * a .product * n) (mul-comm (c .source) (b .product))
-        ∙ mul-mul-mul-comm (b .source) (a .product) (b .product) (c .source)
-        ∙ ap (λ (n : ℕ). b .source * b .product * n) (mul-comm (a .product) (c .source))
-
-    over : a .source * b .product * (b .source * c .product) ≡ b .source * b .product * (a .source * c .product)
-    over =
-        ap (λ (n : ℕ). n * (b .source * c .product)) (mul-comm (a .source) (b .product))
-        ∙ mul-mul-mul-comm (b .product) (a .source) (b .source) (c .product)
-        ∙ ap (λ (n : ℕ). n * (a .source * c .product)) (mul-comm (b .product) (b .source))
 
 module _ {clock : ℕ → Undivided} (runs : (i : ℕ) → i < 4 → Runs (clock i)) {t : List (List Ratio)} (r : Ratios clock t) where
   -- only one pair of numbers is clock i to clock j
@@ -45,7 +38,7 @@ module _ {clock : ℕ → Undivided} (runs : (i : ℕ) → i < 4 → Runs (clock
   only i j h k s = one-between (runs i h) (runs j k) (r .each i h j k) s
 
   pub diagonal : (i : ℕ) → i < 4 → entry t i i ≡ ratio 1 1
-  diagonal i h = only i i h h (itself (clock i .source * clock i .product))
+  diagonal i h = only i i h h (itself (over (clock i) (clock i)))
 
   pub across : (i j : ℕ) → i < 4 → j < 4 → entry t j i ≡ inverse (entry t i j)
   across i j h k = only j i k h (turned (r .each i h j k))
@@ -62,7 +55,7 @@ module _ {clock : ℕ → Undivided} (runs : (i : ℕ) → i < 4 → Runs (clock
       no-zero (mul-pos (p .0) (q .1)) (mul-pos (q .0) (p .1)) (r .each i h j k)
 
   pub one-table : {u : List (List Ratio)} → Ratios clock u → t ≡ u
-  one-table s = same-table r s (λ i j h k. only i j h k (s .each i h j k))
+  one-table s = same-table (r .square) (s .square) (λ i j h k. only i j h k (s .each i h j k))
 
 -- any four clocks, those that do not run too, have one six
 pub one-six : {a b c d : Undivided} {s t : Above} → Six a b c d s → Six a b c d t → s ≡ t

@@ -17,9 +17,7 @@ use native.Mathlib.Nat.{
   mul-le-mul,
   mul-left-comm,
   mul-mul-mul-comm,
-  mul-one,
   mul-pos,
-  mul-right-comm,
   pos-of-ne-zero,
   zero-mul,
 }
@@ -119,17 +117,14 @@ of-reduced p (to-lowest q h) = h
 of-reduced p (no-terms z) = absurd (omega arith)
 
 -- of 0 and another number it is 0 to 1; so any two numbers have one
-zero-first : {y : ℕ} {r : Ratio} → 0 < y → Lowest 0 y r → r ≡ ratio 0 1
-zero-first {y} {r} p h = ap₂ ratio num den
+first-zero : {x y : ℕ} {r : Ratio} → x ≡ 0 → 0 < x + y → Lowest x y r → r ≡ ratio 0 1
+first-zero {x} {y} {r} e p h = ap₂ ratio num den
   where
     num : r .num ≡ 0
-    num = product-zero y (r .num) (mul-comm y (r .num) ∙ h .equal ∙ zero-mul (r .den)) p
+    num = product-zero y (r .num) (mul-comm y (r .num) ∙ h .equal ∙ ap (λ (n : ℕ). n * r .den) e ∙ zero-mul (r .den)) (omega (arith, p, e))
 
     den : r .den ≡ 1
     den = h .lowest (r .den) (subst (λ (n : ℕ). r .den ∣ n) (sym num) (dvd-zero (r .den))) (dvd-refl (r .den))
-
-first-zero : {x y : ℕ} {r : Ratio} → x ≡ 0 → 0 < x + y → Lowest x y r → r ≡ ratio 0 1
-first-zero {x} {y} {r} e p h = zero-first (omega (arith, p, e)) (subst (λ (n : ℕ). Lowest n y r) e h)
 
 one-lowest : {x y : ℕ} {r s : Ratio} → 0 < x + y → Lowest x y r → Lowest x y s → r ≡ s
 one-lowest {x} {y} p h k =

@@ -22,10 +22,14 @@ Between a b r = Lowest (over a b) (over b a) r
 abbrev pub entry : List (List Ratio) → ℕ → ℕ → Ratio
 entry table i j = getD (getD table i []) j (ratio 0 0)
 
--- every entry is the ratio of its row's clock to its column's
-pub record Ratios (clock : ℕ → Undivided) (table : List (List Ratio)) : Type 0 where
+-- four rows of four
+pub record Square (table : List (List Ratio)) : Type 0 where
   pub rows : length table ≡ 4
   pub columns : (i : ℕ) → i < 4 → length (getD table i []) ≡ 4
+
+-- every entry is the ratio of its row's clock to its column's
+pub record Ratios (clock : ℕ → Undivided) (table : List (List Ratio)) : Type 0 where
+  pub square : Square table
   pub each : (i : ℕ) → i < 4 → (j : ℕ) → j < 4 → Between (clock i) (clock j) (entry table i j)
 
 -- 0 to 0 everywhere

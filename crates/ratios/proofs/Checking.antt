@@ -1,6 +1,6 @@
 -- What the check call tells, from what evaluation tells. Assumes nothing.
 use Prim.Native.Nat.{ℕ, zero, suc, _<_}
-use mathlib.Core.Path.{_≡_, refl, sym, ap, subst, subst⁻¹, _∙_}
+use mathlib.Core.Path.{_≡_, refl, sym, ap, subst, _∙_}
 use mathlib.Core.Bool.{Bool, true, false}
 use mathlib.Core.List.{List, []}
 use native.Mathlib.Omega.{arith}
@@ -19,7 +19,6 @@ use Rattle.evaluation.specs.Evaluated.{evaluated, judged, pick-told, told-error
 use Rattle.evaluation.specs.Formulas.{clocks-of, outputs}
 use Rattle.sources.specs.declared.PllOutputs.{PllOutputs}
 use Rattle.ratio_table.specs.declared.Above.{Above}
-use Rattle.ratio_table.specs.declared.Undivided.{Undivided}
 use Rattle.ratio_table.specs.Lowest.{ratio}
 use Rattle.ratio_table.specs.Table.{Runs, Six, mirror, none}
 use Rattle.ratio_table.proofs.Entries.{six}

@@ -105,5 +105,5 @@ module _ (image : List ℕ) where
   -- two crystals that are both accepted give the same table
   pub any-crystal : (c d : ℕ) → checked c image ≡ answered fine → checked d image ≡ answered fine → {t u : List (List Ratio)} → Right c image t → Right d image u → t ≡ u
   any-crystal c d okc okd r s =
-      same-table (ratios-of c image okc r) (ratios-of d image okd s)
+      same-table (ratios-of c image okc r .square) (ratios-of d image okd s .square)
       (λ i j h k. one-between (bare-runs c okc i h) (bare-runs c okc j k) (at-one c okc r i j h k) (at-one d okd s i j h k))

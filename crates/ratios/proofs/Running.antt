@@ -1,6 +1,6 @@
 -- Where no check is broken and the crystal is not 0, every PL clock runs: no source and no product is 0. Assumes nothing.
 use Prim.Native.Nat.{ℕ, _*_, _^_, _<_, _≤_}
-use mathlib.Core.Path.{_≡_, refl, sym, subst⁻¹}
+use mathlib.Core.Path.{_≡_, refl}
 use mathlib.Core.Bool.{Bool, true, false}
 use mathlib.Core.List.{List}
 use native.Mathlib.Nat.{mul-le-mul, mul-pos, pos-of-ne-zero}
@@ -18,7 +18,6 @@ use Rattle.registers.specs.Words.{word, ARM-PLL-CTRL, DDR-PLL-CTRL, IO-PLL-CTRL
 use Rattle.sources.specs.Clock.{dual}
 use Rattle.sources.specs.Source.{bypassed, output-of, pll-output}
 use Rattle.sources.proofs.Laws.{multiplied, passed-on}
-use Rattle.checks.specs.declared.Check.{Check}
 use Rattle.checks.specs.declared.Reason.the-variants.{Nothing}
 use Rattle.checks.specs.Check.{broken, checks, fits, reason, zero}
 use Rattle.checks.proofs.Laws.{all-clear, holds}

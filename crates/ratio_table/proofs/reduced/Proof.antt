@@ -1,6 +1,5 @@
 -- `ratio_table::reduced` meets its contract. Assumes nothing.
 use borrow.Author.Needs.{needs}
-use mathlib.Core.Path.{subst}
 use native.Mathlib.Omega.{arith}
 use Rattle.gcd.proofs.Laws.{no-divisor, some-divisor}
 use Rattle.ratio_table.specs.Lowest.{no-terms, to-lowest}
