@@ -12,8 +12,8 @@ use Rattle.evaluation.specs.declared.ClockReadError.the-variants.{BadImage, Div
 use Rattle.evaluation.specs.Evaluated.{told-error}
 use Rattle.ratio_table.specs.declared.Above.{Above}
 use Rattle.ratio_table.specs.declared.Ratio.{Ratio}
-use Rattle.ratios.specs.Checked.{Reads, Right, above, checked, fine}
-use Rattle.ratios.specs.Checked as read
+use Rattle.ratios.specs.Checked.{Checks, Right, checked, fine}
+use Rattle.ratios.specs.Checked as check
 use Rattle.ratio_table.specs.Lowest.{ratio}
 use Rattle.ratio_table.specs.Table.{Square, mirror}
 use Rattle.ratios.proofs.Checking.{right-table}
@@ -56,18 +56,18 @@ module _ (crystal : ℕ) (image : List ℕ) where
       q : Square t
       q = square ok r
 
-  -- what was read, as a table
+  -- what the check call tells, as a table
   module _ {a : Above} {t : List (List Ratio)} (e : t ≡ mirror (ratio 1 1) a) where
-    pub table-read : Reads crystal image (answered a) → TableOrRefusal crystal image (answered t)
-    table-read (above ok s) = table ok (subst⁻¹ (Right crystal image) e (right-table crystal image (above ok s)))
+    pub table-told : Checks crystal image (answered a) → TableOrRefusal crystal image (answered t)
+    table-told (check.ratios ok s) = table ok (subst⁻¹ (Right crystal image) e (right-table crystal image (check.ratios ok s)))
 
-    pub table-square : Reads crystal image (answered a) → Square t
-    table-square (above ok s) = square ok (subst⁻¹ (Right crystal image) e (right-table crystal image (above ok s)))
+    pub table-square : Checks crystal image (answered a) → Square t
+    table-square (check.ratios ok s) = square ok (subst⁻¹ (Right crystal image) e (right-table crystal image (check.ratios ok s)))
 
-  pub refusal-read : {number : ℕ} {carried : List ℕ} → Reads crystal image (refused number carried) → TableOrRefusal crystal image (refused number carried)
-  refusal-read (read.refusal not-ok) = refusal not-ok
+  pub refusal-told : {number : ℕ} {carried : List ℕ} → Checks crystal image (refused number carried) → TableOrRefusal crystal image (refused number carried)
+  refusal-told (check.refusal not-ok) = refusal not-ok
 
-  pub error-read : (e : ClockReadError) → Reads crystal image (told-error e) → TableOrRefusal crystal image (told-error e)
-  error-read BadImage h = refusal-read h
-  error-read (DivisorZero id) h = refusal-read h
-  error-read (Overflow id) h = refusal-read h
+  pub error-told : (e : ClockReadError) → Checks crystal image (told-error e) → TableOrRefusal crystal image (told-error e)
+  error-told BadImage h = refusal-told h
+  error-told (DivisorZero id) h = refusal-told h
+  error-told (Overflow id) h = refusal-told h

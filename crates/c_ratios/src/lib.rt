@@ -3,8 +3,8 @@ use c_clocks::error_code;
 use handing::no_room;
 use ratio_table::Ratio;
 use ratio_table::table;
-use ratios::RatiosRead;
-use ratios::read_ratios;
+use ratios::RatiosCheck;
+use ratios::ratios_check;
 ghost use mathlib.Core.Path.{_≡_};
 ghost use mathlib.Core.List.{_++_};
 ghost use Prim.Native.Nat.{_≤_};
@@ -33,12 +33,12 @@ pub fn ratios(crystal: u32, image: &[u32], out: &mut [u64]) -> u64
     if out.len() < 32 {
         return no_room(32);
     }
-    match read_ratios(crystal, image) {
-        RatiosRead::Above(above) => {
+    match ratios_check(crystal, image) {
+        RatiosCheck::Fine(above) => {
             put_table(table(above), out);
             0
         }
-        RatiosRead::Refused(error) => error_code(error),
-        RatiosRead::ZeroClock => 14,
+        RatiosCheck::Refused(error) => error_code(error),
+        RatiosCheck::ZeroClock => 14,
     }
 }

@@ -12,7 +12,7 @@ use Rattle.ratio_table.specs.Lowest.{Lowest, Reduced, ratio, inverse}
 abbrev pub Runs : Undivided → Type 0
 Runs a = (0 < a .source) × (0 < a .product)
 
--- clock a to clock b: a's source over a's product, to b's source over b's product
+-- a clock is its source s over its product p, so that clock a to clock b is s_a p_b to s_b p_a
 abbrev pub over : Undivided → Undivided → ℕ
 over a b = a .source * b .product
 

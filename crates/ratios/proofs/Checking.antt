@@ -22,7 +22,7 @@ use Rattle.ratio_table.specs.declared.Above.{Above}
 use Rattle.ratio_table.specs.Lowest.{ratio}
 use Rattle.ratio_table.specs.Table.{Runs, Six, mirror, none}
 use Rattle.ratio_table.proofs.Entries.{six}
-use Rattle.ratios.specs.Checked.{Fine, fine, Reads, Right, above, accepted, checked, clock-at, refusal, rejected, then-zero-clock}
+use Rattle.ratios.specs.Checked.{Checks, Fine, Right, accepted, checked, clock-at, fine, ratios, refusal, rejected, then-zero-clock}
 use Rattle.ratios.specs.PlClocks.{pl-clock}
 use Rattle.ratios.proofs.Running.{runs}
 
@@ -64,14 +64,14 @@ module _ (crystal : ℕ) (image : List ℕ) where
       by true (Broken check) q e = let z : _≡_ {A = ℕ} 0 1 = cc in absurd (omega arith)
       by false r q e = let z : _≡_ {A = ℕ} 0 1 = cc in absurd (omega arith)
 
-  -- the ways out of a reading: then-zero, and these
-  pub read-error : (e : ClockReadError) → told-error {A = Clocks} e ≡ evaluated crystal image → Reads crystal image (told-error e)
-  read-error BadImage h = refusal (sym (refused-first BadImage h))
-  read-error (DivisorZero id) h = refusal (sym (refused-first (DivisorZero id) h))
-  read-error (Overflow id) h = refusal (sym (refused-first (Overflow id) h))
+  -- the ways out of the check call: then-zero, and these
+  pub by-error : (e : ClockReadError) → told-error {A = Clocks} e ≡ evaluated crystal image → Checks crystal image (told-error e)
+  by-error BadImage h = refusal (sym (refused-first BadImage h))
+  by-error (DivisorZero id) h = refusal (sym (refused-first (DivisorZero id) h))
+  by-error (Overflow id) h = refusal (sym (refused-first (Overflow id) h))
 
-  pub read-six : {c : Clocks} {a : Above} → answered c ≡ evaluated crystal image → (crystal ≡ 0 → ⊥) → SixOf (outputs-in c) a → Reads crystal image (answered a)
-  read-six {a = a} h n r = above (sym (then-fine h n)) (subst (λ (k : Clocks). SixOf (outputs-in k) a) (evaluates (sym h) .1) r)
+  pub by-six : {c : Clocks} {a : Above} → answered c ≡ evaluated crystal image → (crystal ≡ 0 → ⊥) → SixOf (outputs-in c) a → Checks crystal image (answered a)
+  by-six {a = a} h n r = ratios (sym (then-fine h n)) (subst (λ (k : Clocks). SixOf (outputs-in k) a) (evaluates (sym h) .1) r)
 
   -- what the check call accepts, evaluation answers, and every clock runs
   pub accepted-runs : checked crystal image ≡ answered fine → (i : ℕ) → i < 4 → Runs (clock-at crystal image i)
@@ -85,13 +85,13 @@ module _ (crystal : ℕ) (image : List ℕ) where
       by (suc n) (answered c) e q h = runs crystal image (evaluates q .0) (omega (arith, e))
 
   -- and from there to a table
-  pub right-table : {a : Above} → Reads crystal image (answered a) → Right crystal image (mirror (ratio 1 1) a)
-  right-table (above ok s) = accepted ok (six (clock-at crystal image) (accepted-runs ok) s)
+  pub right-table : {a : Above} → Checks crystal image (answered a) → Right crystal image (mirror (ratio 1 1) a)
+  right-table (ratios ok s) = accepted ok (six (clock-at crystal image) (accepted-runs ok) s)
 
-  pub right-none : {number : ℕ} {carried : List ℕ} → Reads crystal image (refused number carried) → Right crystal image none
+  pub right-none : {number : ℕ} {carried : List ℕ} → Checks crystal image (refused number carried) → Right crystal image none
   right-none (refusal no-table) = rejected no-table
 
-  pub none-by-error : (e : ClockReadError) → Reads crystal image (told-error e) → Right crystal image none
+  pub none-by-error : (e : ClockReadError) → Checks crystal image (told-error e) → Right crystal image none
   none-by-error BadImage h = right-none h
   none-by-error (DivisorZero id) h = right-none h
   none-by-error (Overflow id) h = right-none h

@@ -1,15 +1,14 @@
 -- The laws of an image's table. Assumes nothing.
 use Prim.Native.Nat.{ℕ}
-use mathlib.Core.Path.{_≡_, refl, sym, ap, subst⁻¹, _∙_}
+use mathlib.Core.Path.{_≡_, refl, sym, ap, _∙_}
 use mathlib.Core.List.{List}
 use native.Mathlib.Omega.{arith}
 use Rattle.refusals.specs.Told.{Told, answered, refused}
 use Rattle.ratio_table.specs.declared.Above.{Above}
 use Rattle.ratio_table.specs.declared.Ratio.{Ratio}
-use Rattle.ratio_table.specs.Table.{Ratios, none}
+use Rattle.ratio_table.specs.Table.{Ratios}
 use Rattle.ratio_table.proofs.Laws.{above-zero, one-six, one-table}
-use Rattle.ratios.specs.declared.RatiosCheck.{RatiosCheck}
-use Rattle.ratios.specs.Checked.{Fine, fine, Reads, Right, Tied, above, accepted, all-zero, checked, clock-at, no-zero, refusal, rejected, told}
+use Rattle.ratios.specs.Checked.{Checks, Fine, Right, Tied, accepted, all-zero, checked, clock-at, fine, no-zero, ratios, refusal, rejected}
 use Rattle.ratios.proofs.Checking.{accepted-runs}
 
 different : {n : ℕ} {carried : List ℕ} → _≡_ {A = Told Fine} (answered fine) (refused n carried) → ⊥
@@ -26,13 +25,14 @@ module _ (crystal : ℕ) (image : List ℕ) where
   unique (rejected not-ok) (accepted ok s) = absurd (different (sym ok ∙ not-ok))
   unique (rejected _) (rejected _) = refl
 
-  pub one-reading : (t u : Told Above) → Reads crystal image t → Reads crystal image u → t ≡ u
-  one-reading _ _ (above ok r) (above _ s) = ap answered (one-six r s)
-  one-reading _ _ (above ok r) (refusal not-ok) = absurd (different (sym ok ∙ not-ok))
-  one-reading _ _ (refusal not-ok) (above ok s) = absurd (different (sym ok ∙ not-ok))
-  one-reading _ _ (refusal x) (refusal y) = let e = sym x ∙ y in cc
+  pub one-check : (t u : Told Above) → Checks crystal image t → Checks crystal image u → t ≡ u
+  one-check _ _ (ratios ok r) (ratios _ s) = ap answered (one-six r s)
+  one-check _ _ (ratios ok r) (refusal not-ok) = absurd (different (sym ok ∙ not-ok))
+  one-check _ _ (refusal not-ok) (ratios ok s) = absurd (different (sym ok ∙ not-ok))
+  one-check _ _ (refusal x) (refusal y) = let e = sym x ∙ y in cc
 
   -- the table and what the check call tells
-  pub tied : (c : RatiosCheck) {t : List (List Ratio)} → told c ≡ checked crystal image → Right crystal image t → Tied (told c) t
-  tied c {t} e (accepted ok r) = subst⁻¹ (λ (a : Told Fine). Tied a t) (e ∙ ok) (no-zero (above-zero (accepted-runs crystal image ok) r))
-  tied c e (rejected not-ok) = subst⁻¹ (λ (a : Told Fine). Tied a none) (e ∙ not-ok) all-zero
+  pub tied : {c : Told Above} {t : List (List Ratio)} → Checks crystal image c → Right crystal image t → Tied c t
+  tied (ratios ok _) r = no-zero (above-zero (accepted-runs crystal image ok) (ratios-of ok r))
+  tied (refusal not-ok) (accepted ok _) = absurd (different (sym ok ∙ not-ok))
+  tied (refusal _) (rejected _) = all-zero

@@ -13,24 +13,17 @@ use Rattle.ratio_table.specs.declared.Undivided.{Undivided}
 use Rattle.ratio_table.specs.Table.{Ratios, Six, entry, none}
 use Rattle.ratios.specs.declared.RatiosCheck.{RatiosCheck}
 use Rattle.ratios.specs.declared.RatiosCheck.the-variants as case
-use Rattle.ratios.specs.declared.RatiosRead.{RatiosRead}
-use Rattle.ratios.specs.declared.RatiosRead.the-variants as read
 use Rattle.ratios.specs.PlClocks.{pl-clock}
 
--- that there are ratios: an answer with nothing in it
-pub data Fine : Type 0 where
-  fine : Fine
-
 -- documents 01 and 02's number and values for each case of the answer
-abbrev pub told : RatiosCheck → Told Fine
-told case.Fine = answered fine
+abbrev pub told : RatiosCheck → Told Above
+told (case.Fine six) = answered six
 told (case.Refused error) = told-error error
 told case.ZeroClock = refused ZERO-CLOCK []
 
-abbrev pub told-read : RatiosRead → Told Above
-told-read (read.Above above) = answered above
-told-read (read.Refused error) = told-error error
-told-read read.ZeroClock = refused ZERO-CLOCK []
+-- that there are ratios, whatever they are
+pub data Fine : Type 0 where
+  fine : Fine
 
 -- evaluation's refusals, all of them and in its order; then 14, exactly for a crystal of 0
 abbrev pub then-zero-clock : ℕ → Told Clocks → Told Fine
@@ -45,10 +38,10 @@ checked crystal image = then-zero-clock crystal (evaluated crystal image)
 abbrev pub clock-at : ℕ → List ℕ → ℕ → Undivided
 clock-at crystal image = pl-clock (outputs crystal image) image
 
--- the six ratios of an image that is not refused, and else the refusal
-pub data Reads (crystal : ℕ) (image : List ℕ) : Told Above → Type 0 where
-  above : {a : Above} → checked crystal image ≡ answered fine → Six (clock-at crystal image 0) (clock-at crystal image 1) (clock-at crystal image 2) (clock-at crystal image 3) a → Reads crystal image (answered a)
-  refusal : {number : ℕ} {carried : List ℕ} → checked crystal image ≡ refused number carried → Reads crystal image (refused number carried)
+-- what the check call tells: the refusal, or the six ratios of an image that is not refused
+pub data Checks (crystal : ℕ) (image : List ℕ) : Told Above → Type 0 where
+  ratios : {six : Above} → checked crystal image ≡ answered fine → Six (clock-at crystal image 0) (clock-at crystal image 1) (clock-at crystal image 2) (clock-at crystal image 3) six → Checks crystal image (answered six)
+  refusal : {number : ℕ} {carried : List ℕ} → checked crystal image ≡ refused number carried → Checks crystal image (refused number carried)
 
 -- the right table; 0 to 0 everywhere after a refusal
 pub data Right (crystal : ℕ) (image : List ℕ) : List (List Ratio) → Type 0 where
@@ -56,6 +49,6 @@ pub data Right (crystal : ℕ) (image : List ℕ) : List (List Ratio) → Type 0
   rejected : {number : ℕ} {carried : List ℕ} → checked crystal image ≡ refused number carried → Right crystal image none
 
 -- how the two calls go together, which is the law `tied`
-pub data Tied : Told Fine → List (List Ratio) → Type 0 where
-  no-zero : {table : List (List Ratio)} → ((i j : ℕ) → i < 4 → j < 4 → (0 < entry table i j .num) × (0 < entry table i j .den)) → Tied (answered fine) table
+pub data Tied : Told Above → List (List Ratio) → Type 0 where
+  no-zero : {six : Above} {table : List (List Ratio)} → ((i j : ℕ) → i < 4 → j < 4 → (0 < entry table i j .num) × (0 < entry table i j .den)) → Tied (answered six) table
   all-zero : {number : ℕ} {carried : List ℕ} → Tied (refused number carried) none

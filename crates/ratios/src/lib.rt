@@ -22,32 +22,31 @@ ghost use mathlib.Core.Path.{_≡_};
 ghost use Rattle.registers.specs.Words.{word as word-of};
 ghost use Rattle.ratio_table.specs.Table.{Six};
 ghost use Rattle.ratios.specs.PlClocks.{undivided, pl-clock};
-ghost use Rattle.ratios.specs.Checked.{told, told-read, checked, Reads, Right};
+ghost use Rattle.ratios.specs.Checked.{told, Checks, Right};
 
 pub enum RatiosCheck {
-    Fine,
+    // There are ratios, and of these six `table` makes the table: an enum cannot hold the table itself.
+    Fine(Above),
     Refused(ClockReadError),
     ZeroClock,
 }
 
-pub enum RatiosRead {
-    Above(Above),
-    Refused(ClockReadError),
-    ZeroClock,
-}
-
-// Whether there are ratios: evaluation's refusals come first, and then that of a crystal of 0.
+// Evaluation's refusals come first, and then that of a crystal of 0.
 pub fn ratios_check(crystal: u32, image: &[u32]) -> RatiosCheck
-    ensures { λ r. ⌜ told r ≡ checked crystal (now (image .entry)) ⌝ }
+    ensures { λ r. ⌜ Checks crystal (now (image .entry)) (told r) ⌝ }
 {
     match new_from_regs(crystal, image) {
         Evaluated::Refused(error) => RatiosCheck::Refused(error),
-        Evaluated::Clocks(_) => {
+        Evaluated::Clocks(clocks) => {
             if crystal == 0 {
-                RatiosCheck::ZeroClock
-            } else {
-                RatiosCheck::Fine
+                return RatiosCheck::ZeroClock;
             }
+            let out = PllOutputs {
+                arm_pll_out: clocks.arm_pll_out,
+                ddr_pll_out: clocks.ddr_pll_out,
+                io_pll_out: clocks.io_pll_out,
+            };
+            RatiosCheck::Fine(above_of(out, image))
         }
     }
 }
@@ -56,30 +55,10 @@ pub fn ratios_check(crystal: u32, image: &[u32]) -> RatiosCheck
 pub fn ratios(crystal: u32, image: &[u32]) -> [[Ratio; 4]; 4]
     ensures { λ r. ⌜ Right crystal (now (image .entry)) r ⌝ }
 {
-    match read_ratios(crystal, image) {
-        RatiosRead::Above(above) => table(above),
-        RatiosRead::Refused(_) => no_ratios(),
-        RatiosRead::ZeroClock => no_ratios(),
-    }
-}
-
-// What the table is made of, or the refusal: both of one evaluation. An enum cannot hold the table itself.
-pub fn read_ratios(crystal: u32, image: &[u32]) -> RatiosRead
-    ensures { λ r. ⌜ Reads crystal (now (image .entry)) (told-read r) ⌝ }
-{
-    match new_from_regs(crystal, image) {
-        Evaluated::Refused(error) => RatiosRead::Refused(error),
-        Evaluated::Clocks(clocks) => {
-            if crystal == 0 {
-                return RatiosRead::ZeroClock;
-            }
-            let out = PllOutputs {
-                arm_pll_out: clocks.arm_pll_out,
-                ddr_pll_out: clocks.ddr_pll_out,
-                io_pll_out: clocks.io_pll_out,
-            };
-            RatiosRead::Above(above_of(out, image))
-        }
+    match ratios_check(crystal, image) {
+        RatiosCheck::Fine(above) => table(above),
+        RatiosCheck::Refused(_) => no_ratios(),
+        RatiosCheck::ZeroClock => no_ratios(),
     }
 }
 

@@ -4,8 +4,8 @@ use mathlib.Core.Path.{ap, refl, subst}
 use native.Mathlib.Omega.{arith}
 use Rattle.c_clocks.proofs.Errors.{error-handed}
 use Rattle.handing.proofs.Handing.{no-row, refuses, answers}
-use Rattle.ratios.specs.Checked.{Reads, told-read}
-use Rattle.c_ratios.proofs.Laws.{error-read, refusal-read, table-read, table-square}
+use Rattle.ratios.specs.Checked.{Checks, told}
+use Rattle.c_ratios.proofs.Laws.{error-told, refusal-told, table-square, table-told}
 use Rattle.c_ratios.proofs.ratios.Statement.{statement}
 use Rattle.c_ratios.proofs.ratios.Tie as tie
 
@@ -15,13 +15,13 @@ returns c = no-row (c .before .if1 .taken) (c .no-room .ensures)
 put-table-requires : tie.Need-put-table-requires
 put-table-requires c κs =
     let k = c .before .before .before in
-    (table-square _ _ (c .before .table .ensures) (subst (Reads _ _) (ap told-read (k .above .given .1)) (k .before .before .read-ratios .ensures)), omega arith)
+    (table-square _ _ (c .before .table .ensures) (subst (Checks _ _) (ap told (k .above .given .1)) (k .before .before .ratios-check .ensures)), omega arith)
 
 returns-2 : tie.Need-returns-2
 returns-2 c =
     let k = c .before .before .before .before .before .before in
     answers (omega arith)
-    (table-read _ _ (c .before .before .before .before .table .ensures) (subst (Reads _ _) (ap told-read (k .above .given .1)) (k .before .before .read-ratios .ensures)))
+    (table-told _ _ (c .before .before .before .before .table .ensures) (subst (Checks _ _) (ap told (k .above .given .1)) (k .before .before .ratios-check .ensures)))
     refl
     (refl, c .before .before .put-table .ensures)
 
@@ -30,10 +30,10 @@ returns-3 c =
     let k = c .before .before in
     rw (c .error-code .ensures)
     (error-handed (k .error .given .0 .0) (omega arith)
-    (error-read _ _ (k .error .given .0 .0) (subst (Reads _ _) (ap told-read (k .error .given .1)) (k .before .before .read-ratios .ensures))))
+    (error-told _ _ (k .error .given .0 .0) (subst (Checks _ _) (ap told (k .error .given .1)) (k .before .before .ratios-check .ensures))))
 
 returns-4 : tie.Need-returns-4
-returns-4 c = refuses (omega arith) (refusal-read _ _ (subst (Reads _ _) (ap told-read (c .enum-told .given .1)) (c .before .before .read-ratios .ensures))) refl tt
+returns-4 c = refuses (omega arith) (refusal-told _ _ (subst (Checks _ _) (ap told (c .enum-told .given .1)) (c .before .before .ratios-check .ensures))) refl tt
 
 pub ratios-spec : {M : Type 1} → statement M
 ratios-spec =
