@@ -1,0 +1,5 @@
+pub mod Counting
+pub mod Going
+pub mod Leading
+pub mod Sampling
+pub mod Signed

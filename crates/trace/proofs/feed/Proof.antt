@@ -1,0 +1,19 @@
+-- `trace::feed` meets its contract.
+use native.Mathlib.Omega.{arith}
+use borrow.Author.Needs.{needs}
+use Rattle.trace.specs.Parts.{Feeds, bad-rows, trace-long, goes-on}
+use Rattle.trace.proofs.Going.{stays}
+use Rattle.trace.proofs.feed.Statement.{statement}
+use Rattle.trace.proofs.feed.Tie as tie
+
+pub feed-spec : {M : Type 1} → statement M
+feed-spec =
+    tie.close
+    (tie.spec
+    (λ c. bad-rows (c .if1 .taken))
+    (λ c. trace-long (omega arith) (omega arith))
+    (λ c. search needs)
+    (λ c. trace-long (omega arith) (omega arith))
+    (λ c. goes-on (omega arith) (omega arith) (stays _ _ (omega arith) (c .if4 .taken) (omega arith) (omega arith)))
+    (λ c κs. search needs)
+    (λ c. goes-on (omega arith) (omega arith) (c .through .ensures)))
