@@ -3,6 +3,8 @@
 mod pll;
 mod records;
 
+use trace::Fed;
+use trace::Trace;
 ghost use mathlib.Core.Path.{_≡_};
 ghost use Prim.Native.Nat.{_+_};
 ghost use Rattle.two_stage.specs.Best.{frequency};
@@ -18,6 +20,8 @@ ghost use Rattle.c_clocks.specs.Update.{IoUpdated};
 ghost use Rattle.c_ratios.specs.Tells.{RatiosTells};
 ghost use Rattle.c_gem.specs.Tells.{GemHanded};
 ghost use Rattle.c_clock_setup.specs.Tells.{CpuInitTells, DdrInitTells};
+ghost use Rattle.trace.specs.Difference.{difference};
+ghost use Rattle.trace.specs.Parts.{Feeds};
 
 #[no_mangle]
 pub extern "C" fn ogr_two_stage(reference: u32, target: u32, largest: u32, out: &mut [u32]) -> u64
@@ -115,4 +119,18 @@ pub extern "C" fn ogr_ddr_init(reference: u32, div_3x: u32, div_2x: u32, out: &m
     ensures { λ r. ⌜ Handed 2 (DdrInitTells reference «div_3x» «div_2x») (now (out .entry)) r (now (out .exit)) ⌝ }
 {
     c_clock_setup::ddr_init(reference, div_3x, div_2x, out)
+}
+
+#[no_mangle]
+pub extern "C" fn ogr_trace_feed(trace: Trace, first: &[u16], second: &[u16]) -> Fed
+    ensures { λ r. ⌜ Feeds trace (now (first .entry)) (now (second .entry)) r ⌝ }
+{
+    trace::feed(trace, first, second)
+}
+
+#[no_mangle]
+pub extern "C" fn ogr_trace_difference(trace: Trace) -> i64
+    ensures { λ r. ⌜ r ≡ difference (trace .first .total) (trace .second .total) ⌝ }
+{
+    trace::difference(trace)
 }
