@@ -1,7 +1,7 @@
 -- Steps and ticks. Assumes nothing.
-use Prim.Native.Nat.{ℕ, zero, suc, _+_, _-_, _*_, _≤_, _<_, _%_}
-use mathlib.Core.Path.{_≡_, refl, sym, ap, _∙_}
-use mathlib.Core.List.{List, [], _∷_, _++_}
+use Prim.Native.Nat.{ℕ, zero, suc, _+_, _-_, _≤_, _<_, _%_}
+use mathlib.Core.Path.{_≡_, sym, ap, _∙_}
+use mathlib.Core.List.{List, [], _∷_}
 use native.Mathlib.Nat.{le-of-suc-le-suc, not-suc-le-zero, add-assoc}
 use native.Mathlib.Omega.{arith}
 use lib.ListN.{length, take, getD}
@@ -11,9 +11,9 @@ pub step-below : (a b : ℕ) → step a b < RANGE
 unfolding step
 step-below a b = omega arith
 
-pub step-self : {a : ℕ} → a < RANGE → step a a ≡ 0
+pub step-self : (a : ℕ) → step a a ≡ 0
 unfolding step
-step-self h = omega arith
+step-self a = omega arith
 
 -- what wrapping subtraction gives
 pub wrapped : {r a b : ℕ} → r < RANGE → a < RANGE → (r + a) % RANGE ≡ b → r ≡ step a b

@@ -3,7 +3,7 @@ use Prim.Native.Nat.{ℕ, zero, suc, _+_, _-_, _≤_, _<_, _%_, _^_, suc-le-suc}
 use mathlib.Core.Path.{_≡_, refl, sym, ap, ap₂, _∙_, subst}
 use mathlib.Core.Bool.{Bool, true, false, cond}
 use mathlib.Core.List.{List, [], _∷_}
-use native.Mathlib.Nat.{le-of-suc-le-suc, not-suc-le-zero, le-refl}
+use native.Mathlib.Nat.{le-of-suc-le-suc, not-suc-le-zero}
 use native.Mathlib.Omega.{arith}
 use lib.Dec.{eqb}
 use lib.ListN.{length, take, getD}
@@ -97,11 +97,13 @@ begun-ready s xs ys h k = either (eqb (s .samples) 0)
     either true = ap₂ (with-lasts s) (any-default xs 0 0 (s .first .last) h) (any-default ys 0 0 (s .second .last) k)
     either false = refl
 
-ends : (p d : ℕ) (counts : List ℕ) → 0 < length counts → getD (p ∷ counts) (length counts) 0 ≡ last-of d counts
-ends p d [] h = absurd (not-suc-le-zero h)
-ends p d (n ∷ counts) h =
-    let one-less : length counts ≡ length (n ∷ counts) - 1 = omega arith in
-    any-default (n ∷ counts) (length counts) 0 d (suc-le-suc (le-refl _)) ∙ ap (λ (i : ℕ). getD (n ∷ counts) i d) one-less
+ends : (p : ℕ) (counts : List ℕ) → getD (p ∷ counts) (length counts) 0 ≡ last-of p counts
+ends p [] = refl
+ends p (n ∷ counts) = ends n counts
+
+any-other : (p d : ℕ) (counts : List ℕ) → 0 < length counts → last-of p counts ≡ last-of d counts
+any-other p d [] h = absurd (not-suc-le-zero h)
+any-other p d (n ∷ counts) h = refl
 
 pub room : (s : Trace) {r c : Trace} {xs ys : List ℕ} {i : ℕ} (x y : ℕ) → s .samples + length xs ≤ MOST → r ≡ begun s x y → Going xs ys r c i → i < length xs
     → c .samples < MOST
@@ -120,8 +122,8 @@ done {s} {r} {c} {xs} {ys} {i} as-long some r-is g end =
     let all : Going xs ys (ready s xs ys) c (length xs) = subst (λ (k : ℕ). Going xs ys (ready s xs ys) c k) n (subst (λ (t : Trace). Going xs ys t c i) (r-is ∙ begun-ready s xs ys some (omega arith)) g) in
     record {
       samples = all .samples;
-      first = all .first ∙ ap (channel _) (ends _ _ xs some);
-      second = all .second ∙ ap (channel _) (ap (λ (k : ℕ). getD (prior (s .samples) (s .second) ys ∷ ys) k 0) as-long ∙ ends _ _ ys (omega arith));
+      first = all .first ∙ ap (channel _) (ends _ xs ∙ any-other _ _ xs some);
+      second = all .second ∙ ap (channel _) (ap (λ (k : ℕ). getD (prior (s .samples) (s .second) ys ∷ ys) k 0) as-long ∙ ends _ ys ∙ any-other _ _ ys (omega arith));
       first-leads = all .first-leads;
       second-leads = all .second-leads;
     }

@@ -1,12 +1,11 @@
 -- The signed difference of two totals. Assumes nothing.
-use Prim.Native.Nat.{ℕ, zero, suc, _+_, _-_, _≤_, _<_, _^_}
+use Prim.Native.Nat.{ℕ, zero, suc, _-_, _≤_, _<_}
 use mathlib.Core.Path.{_≡_, refl, sym, ap, ap₂, _∙_, subst}
-use mathlib.Core.Bool.{Bool, true, false, cond}
+use mathlib.Core.Bool.{Bool, cond}
 use native.Mathlib.Decide.{decLe}
 use native.Mathlib.Omega.{arith}
 use borrow.Author.Tests.{lt-ltb, le-ltb}
-use lib.Dec.{ltb}
-use lib.IntN.{ℤ, pos, negsuc, negℤ, subℕ, _-ℤ_}
+use lib.IntN.{ℤ, pos, negsuc, subℕ, _-ℤ_}
 use lib.Signed.{mag}
 use mir.Facts.{toZ-ofZ}
 use mir.Syntax.{w64}
@@ -26,15 +25,21 @@ capped-below t =
       | no h ↦ omega (arith, uncapped {t = t} (omega arith))
     ]
 
+at-least : (x y : ℕ) → y ≤ x → subℕ x y ≡ pos (x - y)
+at-least x y l = ap (λ (b : Bool). cond b (negsuc (y - suc x)) (pos (x - y))) (le-ltb x y l)
+
+short : (x y : ℕ) → x < y → subℕ x y ≡ negsuc (y - suc x)
+short x y l = ap (λ (b : Bool). cond b (negsuc (y - suc x)) (pos (x - y))) (lt-ltb x y l)
+
 pub less : (x y : ℕ) → pos x -ℤ pos y ≡ subℕ x y
-less x zero = ap pos (omega arith) ∙ sym (ap (λ (b : Bool). cond b (negsuc (0 - suc x)) (pos (x - 0))) (le-ltb x 0 (omega arith)))
+less x zero = ap pos (omega arith) ∙ sym (at-least x 0 (omega arith))
 less x (suc y) = refl
 
 pub less-fits : {x y n : ℕ} → x < n → y < n → mag (subℕ x y) < n
 less-fits {x} {y} {n} h k =
     elim (decLe y x) [
-      | yes l ↦ subst (λ (b : Bool). mag (cond b (negsuc (y - suc x)) (pos (x - y))) < n) (sym (le-ltb x y l)) (omega arith)
-      | no l ↦ subst (λ (b : Bool). mag (cond b (negsuc (y - suc x)) (pos (x - y))) < n) (sym (lt-ltb x y (omega arith))) (omega arith)
+      | yes l ↦ subst (λ (z : ℤ). mag z < n) (sym (at-least x y l)) (omega arith)
+      | no l ↦ subst (λ (z : ℤ). mag z < n) (sym (short x y (omega arith))) (omega arith)
     ]
 
 back : {z : ℤ} (t : ℕ) → z ≡ pos (capped t) → toZ w64 (ofZ w64 z) ≡ pos (capped t)
@@ -53,3 +58,12 @@ module _ (a b : ℕ) {m n : ℕ} {x y : ℤ} (m-is : m ≡ a - b) (x-is : x ≡ 
 
   pub told : toZ w64 (ofZ w64 (toZ w64 (ofZ w64 x) -ℤ toZ w64 (ofZ w64 y))) ≡ difference a b
   told = toZ-ofZ subtracts ∙ subtracted
+
+-- of totals that a signed number holds
+pub uncapped-difference : (a b : ℕ) → a < 9_223_372_036_854_775_808 → b < 9_223_372_036_854_775_808 → difference a b ≡ subℕ a b
+uncapped-difference a b h k =
+    ap₂ subℕ (uncapped {t = a - b} (omega arith)) (uncapped {t = b - a} (omega arith))
+    ∙ elim (decLe b a) [
+      | yes l ↦ at-least (a - b) (b - a) (omega arith) ∙ ap pos (omega arith) ∙ sym (at-least a b l)
+      | no l ↦ short (a - b) (b - a) (omega arith) ∙ ap negsuc (omega arith) ∙ sym (short a b (omega arith))
+    ]

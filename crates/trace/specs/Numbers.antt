@@ -24,14 +24,18 @@ seconds (sample ∷ samples) = sample .second ∷ seconds samples
 abbrev pub channel : ℕ → ℕ → Channel
 channel total last = record { total = total; last = last }
 
+-- a channel's ticks, and its last count
+abbrev pub of-counts : List ℕ → Channel
+of-counts counts = channel (ticks counts) (last-of 0 counts)
+
 -- By how many ticks the one channel is ahead of the other at sample k, the last of the first k + 1. A natural less a greater one is 0.
 abbrev pub ahead-at : List ℕ → List ℕ → ℕ → ℕ
 ahead-at ones others k = ticks (take (suc k) ones) - ticks (take (suc k) others)
 
 pub record Numbers (trace : List Sample) (s : Trace) : Type 0 where
   pub samples : s .samples ≡ length trace
-  pub first : s .first ≡ channel (ticks (firsts trace)) (last-of 0 (firsts trace))
-  pub second : s .second ≡ channel (ticks (seconds trace)) (last-of 0 (seconds trace))
+  pub first : s .first ≡ of-counts (firsts trace)
+  pub second : s .second ≡ of-counts (seconds trace)
   pub first-leads : Greatest (ahead-at (firsts trace) (seconds trace)) 0 (length trace) (lead 0 0) (s .«first_leads»)
   pub second-leads : Greatest (ahead-at (seconds trace) (firsts trace)) 0 (length trace) (lead 0 0) (s .«second_leads»)
 

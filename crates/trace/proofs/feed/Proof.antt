@@ -1,7 +1,7 @@
 -- `trace::feed` meets its contract.
 use native.Mathlib.Omega.{arith}
 use borrow.Author.Needs.{needs}
-use Rattle.trace.specs.Parts.{Feeds, bad-rows, trace-long, goes-on}
+use Rattle.trace.specs.Parts.{bad-rows, trace-long, goes-on}
 use Rattle.trace.proofs.Going.{stays}
 use Rattle.trace.proofs.feed.Statement.{statement}
 use Rattle.trace.proofs.feed.Tie as tie
