@@ -18,18 +18,20 @@ use Rattle.trace.specs.Numbers.{channel}
 abbrev pub prior : ℕ → Channel → List ℕ → ℕ
 prior samples c counts = cond (eqb samples 0) (getD counts 0 (c .last)) (c .last)
 
--- The channel's total after k counts of a part. It wraps, which no trace of up to MOST samples can make it do (law `fits`).
+-- The channel's total after k counts of a part. It wraps, which no trace of up to MOST samples can make it do (law `below`).
 abbrev pub after : ℕ → Channel → List ℕ → ℕ → ℕ
 after samples c counts k = (c .total + ticks (prior samples c counts ∷ take k counts)) % 2 ^ 64
+
+-- by how many ticks the one channel is ahead of the other at a part's sample k
+abbrev pub ahead-after : ℕ → Channel → List ℕ → Channel → List ℕ → ℕ → ℕ
+ahead-after samples one ones other others k = after samples one ones (suc k) - after samples other others (suc k)
 
 pub record Onward (s : Trace) (xs ys : List ℕ) (r : Trace) : Type 0 where
   pub samples : r .samples ≡ s .samples + length xs
   pub first : r .first ≡ channel (after (s .samples) (s .first) xs (length xs)) (last-of (s .first .last) xs)
   pub second : r .second ≡ channel (after (s .samples) (s .second) ys (length xs)) (last-of (s .second .last) ys)
-  pub first-leads : Greatest (λ k. after (s .samples) (s .first) xs (suc k) - after (s .samples) (s .second) ys (suc k)) (s .samples) (length xs)
-      (s .«first_leads») (r .«first_leads»)
-  pub second-leads : Greatest (λ k. after (s .samples) (s .second) ys (suc k) - after (s .samples) (s .first) xs (suc k)) (s .samples) (length xs)
-      (s .«second_leads») (r .«second_leads»)
+  pub first-leads : Greatest (ahead-after (s .samples) (s .first) xs (s .second) ys) (s .samples) (length xs) (s .«first_leads») (r .«first_leads»)
+  pub second-leads : Greatest (ahead-after (s .samples) (s .second) ys (s .first) xs) (s .samples) (length xs) (s .«second_leads») (r .«second_leads»)
 
 abbrev pub MOST : ℕ
 MOST = 16_777_216

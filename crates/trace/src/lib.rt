@@ -63,13 +63,11 @@ pub fn feed(trace: Trace, first: &[u16], second: &[u16]) -> Fed
     ensures { λ r. ⌜ Feeds trace (now (first .entry)) (now (second .entry)) r ⌝ }
 {
     let n = first.len();
+    let samples = trace.samples as usize + n;
     if n != second.len() {
         return Fed { refusal: 18, trace };
     }
-    if trace.samples > 16777216 {
-        return Fed { refusal: 19, trace };
-    }
-    if n > (16777216 - trace.samples) as usize {
+    if samples > 16777216 {
         return Fed { refusal: 19, trace };
     }
     if n == 0 {

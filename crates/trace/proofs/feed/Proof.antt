@@ -10,10 +10,10 @@ pub feed-spec : {M : Type 1} → statement M
 feed-spec =
     tie.close
     (tie.spec
-    (λ c. bad-rows (c .if1 .taken))
-    (λ c. trace-long (omega arith) (omega arith))
     (λ c. search needs)
+    (λ c. search needs)
+    (λ c. bad-rows (λ e. omega arith))
     (λ c. trace-long (omega arith) (omega arith))
-    (λ c. goes-on (omega arith) (omega arith) (stays _ _ (omega arith) (c .if4 .taken) (omega arith) (omega arith)))
+    (λ c. goes-on (omega arith) (omega arith) (stays _ _ (omega arith) (c .if3 .taken) (omega arith) (omega arith)))
     (λ c κs. search needs)
     (λ c. goes-on (omega arith) (omega arith) (c .through .ensures)))
