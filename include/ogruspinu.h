@@ -4,12 +4,13 @@
  * Link libarchive.a, which `rt staticlib archive` writes to target/staticlib/. It is for x86-64 Linux alone.
  *
  * Frequencies are whole Hertz in 32 bits, and every quotient is rounded down. A row of words is lent as a pointer and its length in
- * words. The pointer may be null where the length is 0; two rows of one call must not overlap.
+ * words. The pointer may be null where the length is 0; a row that is written must not overlap another of the same call.
  *
  * A call that can refuse returns 64 bits. ogr_number() of them is 0 for an answer, else the refusal's number. ogr_carried() of them is
  * what the refusal carries, 0 where it carries nothing. An answer stands at the front of the lent row `out`, and what lies behind it
  * stays as it was; of ogr_uart_list alone, which is lent records, ogr_carried() of an answer is how many there are. The calls of the PLL
- * sequence return a struct instead, whose `refusal` is 0 or the number.
+ * sequence and ogr_trace_feed return a struct instead, whose `refusal` is 0 or the number. A struct goes in by value; the caller's own is
+ * never changed.
  *
  * A refusal writes nothing. A row `out` that is too short is refused before anything else is looked at: OGR_NO_ROOM, which carries the
  * words needed. So `out_len` 0 asks how long a row has to be. ogr_gem looks at the row of clocks before that, and rows whose length
@@ -42,12 +43,12 @@ enum ogr_refusal {
     OGR_BAD_LIMIT = 12,    /* the poll limit is 0 */
     OGR_ALREADY = 13,      /* a once-only PLL start is repeated */
     OGR_ZERO_CLOCK = 14,   /* the crystal is 0 where ratios are asked for */
-    /* 15 to 19 are document 02's; no call here gives them yet. */
+    /* 15 to 17 are document 02's; no call here gives them yet. */
     OGR_BAD_SETTINGS = 15, /* a settings record breaks a rule; carries the offset */
     OGR_NEWER = 16,        /* a settings record of a later version */
     OGR_NOT_YOURS = 17,    /* a word that the party does not hold, or cannot claim */
     OGR_BAD_ROWS = 18,     /* rows of lengths that do not belong together */
-    OGR_TRACE_LONG = 19,   /* a part would make its trace too long */
+    OGR_TRACE_LONG = 19,   /* a part would make its trace longer than OGR_TRACE_MOST samples */
     OGR_BAD_FIELD = 20     /* a number does not fit its field, or there is no such PLL or IO clock */
 };
 
@@ -172,6 +173,33 @@ struct ogr_pll_ran {
     size_t accesses;  /* how many were written to the rows; with OGR_NO_ROOM how long the rows have to be, else 0 where refused */
 };
 
+/* A channel of a trace. */
+struct ogr_trace_channel {
+    uint64_t total; /* ticks since the first sample */
+    uint16_t last;  /* the last count */
+};
+
+/* The most ticks by which one channel was ahead of the other, at any sample. */
+struct ogr_trace_lead {
+    uint64_t ticks; /* 0 where it never was */
+    uint32_t at;    /* the first sample at which it was so many, counted from 0 over the whole trace */
+};
+
+/* A trace so far: all zeros before its first part. It is kept, or stored, between two parts; every value of it is taken. */
+struct ogr_trace {
+    uint32_t samples;
+    struct ogr_trace_channel first;
+    struct ogr_trace_channel second;
+    struct ogr_trace_lead first_leads;
+    struct ogr_trace_lead second_leads;
+};
+
+/* What a part of a trace gives. */
+struct ogr_trace_fed {
+    uint32_t refusal;       /* 0, or an ogr_refusal */
+    struct ogr_trace trace; /* for the next part; as given where refused */
+};
+
 /* Words of an image: word i is the SLCR register at offset 0x100 + 4i. */
 #define OGR_IMAGE_WORDS 50
 
@@ -186,6 +214,9 @@ struct ogr_pll_ran {
 
 /* The most accesses that a recorded run can make: so many words read, and 6 writes. */
 #define OGR_MOST_ACCESSES(reads_len) ((size_t)(reads_len) + 6)
+
+/* The most samples of a trace. */
+#define OGR_TRACE_MOST 16777216
 
 /* The I2C bus: its nominal frequencies in Hertz, and those that ogr_i2c aims at. */
 #define OGR_I2C_NORMAL_NOMINAL 100000
@@ -371,6 +402,39 @@ uint64_t ogr_cpu_init(uint32_t pll, bool six, uint32_t divisor, uint32_t *out, s
  * Refusals: OGR_NO_ROOM (2); OGR_DIVISOR_ZERO with OGR_MODULE_DDR where either is 0; OGR_BAD_FIELD where either is over 63.
  */
 uint64_t ogr_ddr_init(uint32_t reference, uint32_t div_3x, uint32_t div_2x, uint32_t *out, size_t out_len);
+
+/* ---- Traces ---- */
+
+/*
+ * A part of a trace: the counts of two counters of 16 bits, such as two of the triple timer counters' channels, read at the same moments.
+ * The trace so far goes in and comes back, so that it may be fed in parts of any length, and the numbers are those of one part.
+ *
+ *     struct ogr_trace trace = {0};
+ *     while (more(&first, &second, &len)) {
+ *         struct ogr_trace_fed fed = ogr_trace_feed(trace, first, len, second, len);
+ *         if (fed.refusal != 0)
+ *             return fed.refusal;
+ *         trace = fed.trace;
+ *     }
+ *
+ * A channel's total is the sum of the steps from each count to the next, modulo 65,536. It is the ticks that really passed wherever fewer
+ * than 65,536 pass between neighbouring samples: so OGR_TRACE_MOST samples hold ten hours of clocks below 30.5 MHz, and a prescaler brings
+ * a faster clock there (ogr_ttc). At each sample the first leads by its total less the second's, or by 0 where that is not positive, and
+ * the second the other way round; at sample 0 both lead by 0. The greatest lead is kept with the first sample that reached it.
+ *
+ * A part of length 0 changes nothing. A state that no trace has is a state like any other: where `samples` is 0 the part's first counts are
+ * steps from themselves, whatever `last` is, and the totals go on from those given, modulo 2 to the 64.
+ * Refusals, after which the state is as it was given: OGR_BAD_ROWS where the rows differ in length; then OGR_TRACE_LONG where the samples
+ * so far and those of the part are more than OGR_TRACE_MOST, of a part of length 0 too.
+ */
+struct ogr_trace_fed ogr_trace_feed(struct ogr_trace trace, const uint16_t *first, size_t first_len, const uint16_t *second,
+                                    size_t second_len);
+
+/*
+ * The first total less the second. Totals that are further apart than 63 bits hold, which no trace can make, give the largest number with
+ * its sign. Refuses nothing.
+ */
+int64_t ogr_trace_difference(struct ogr_trace trace);
 
 #ifdef __cplusplus
 }

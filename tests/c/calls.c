@@ -2,6 +2,7 @@
  * have to stay. */
 #include "check.h"
 #include "sequence.h"
+#include "trace.h"
 
 static void two_stage(void)
 {
@@ -315,7 +316,7 @@ int main(void)
     void (*const all[])(void) = {two_stage, i2c, ttc, pll_settings, pll_seq_locks, pll_seq_does_not_lock,
                                  pll_seq_is_not_started, pll_steps, pll_steps_time_out, pll_steps_from_no_run, pll_steps_from_forged_runs,
                                  pll_starts_once, pll_starts_unchecked, uart, uart_list, clocks, bypassed_plls, zero_divisors, ratios, gem,
-                                 io_update, set_up};
+                                 io_update, set_up, trace_in_parts, trace_refused, trace_forged, trace_difference};
     for (size_t i = 0; i < sizeof all / sizeof *all; i++)
         all[i]();
     printf("calls.c: %d checks, %d failed\n", checks, failures);

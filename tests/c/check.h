@@ -1,4 +1,4 @@
-/* For calls.c and sequence.h: what a call has to tell, and what every word of the row that was lent to it has to be afterwards. */
+/* For calls.c and its headers: what a call has to tell, and what every word of the row that was lent to it has to be afterwards. */
 #ifndef CHECK_H
 #define CHECK_H
 

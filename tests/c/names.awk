@@ -9,8 +9,9 @@ function snake(t,    out, i, c) {
     return out
 }
 
-# A type without the crate that it comes from. Those of the PLL sequence are named after it outside of its crates.
+# A type without the crate that it comes from. Those of the PLL sequence and of a trace are named after it outside of its crates.
 function bare(t) {
     sub(/.*::/, "", t)
-    return t ~ /^(Plan|Run|Step|Started|Ran)$/ ? "Pll" t : t
+    if (t ~ /^(Plan|Run|Step|Started|Ran)$/) return "Pll" t
+    return t ~ /^(Channel|Lead|Fed)$/ ? "Trace" t : t
 }

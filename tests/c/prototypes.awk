@@ -8,7 +8,7 @@ function c_type(t) {
     if (t == "bool") return "bool"
     if (t == "f32") return "float"
     if (t == "usize") return "size_t"
-    if (t ~ /^u(8|16|32|64)$/) return "uint" substr(t, 2) "_t"
+    if (t ~ /^[iu](8|16|32|64)$/) return (t ~ /^u/ ? "uint" : "int") substr(t, 2) "_t"
     if (t ~ /^[A-Z][A-Za-z0-9]*$/) return "struct ogr_" snake(t)
     return unknown(t)
 }

@@ -26,6 +26,7 @@
 //! | [`clock_setup`] | `ArmClocks::new_with_cpu_clock_init`, `DdrClocks::new_with_2x_3x_init`, functions here | |
 //! | [`pll_start`] | `clocks::pll`: `configure_arm_pll` and its five sisters, `BootPllConfig`, `PllType` | all else |
 //! | [`pll_seq`] | none | all |
+//! | [`trace`] | none | all |
 //!
 //! The library is for x86-64 Linux. Where it was not at hand when this was built, the crate is empty, and the build said
 //! what was missing.
@@ -43,6 +44,7 @@ pub mod ratios;
 pub mod raw;
 mod refusal;
 pub mod time;
+pub mod trace;
 pub mod ttc;
 pub mod two_stage;
 pub mod uart;

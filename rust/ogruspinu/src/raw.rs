@@ -88,6 +88,10 @@ exports! {
     /// A whole run over the words that the registers give when read. Each access is written to three rows, which have to be
     /// six words longer than these: 0 for a read or 1 for a write, the image's word, the value.
     pll_seq: fn ogr_pll_seq(plan: PllPlan, reads: &[u32], kinds: &mut [u32], numbers: &mut [u32], values: &mut [u32]) -> PllRan;
+    /// A trace with a part more: the counts of both channels, in rows of one length.
+    trace_feed: fn ogr_trace_feed(trace: Trace, first: &[u16], second: &[u16]) -> TraceFed;
+    /// The first total less the second, or the largest number with its sign.
+    trace_difference: fn ogr_trace_difference(trace: Trace) -> i64;
 }
 
 /// What a run of the PLL sequence is to do.
@@ -151,4 +155,45 @@ pub struct PllRan {
     pub end: u32,
     /// How many there are; with refusal 9 how long the rows have to be.
     pub accesses: usize,
+}
+
+/// A channel of a trace.
+#[repr(C)]
+#[derive(Clone, Copy, Debug, Default, PartialEq, Eq)]
+pub struct TraceChannel {
+    /// Ticks since the first sample.
+    pub total: u64,
+    /// The last count.
+    pub last: u16,
+}
+
+/// The most ticks by which one channel was ahead of the other.
+#[repr(C)]
+#[derive(Clone, Copy, Debug, Default, PartialEq, Eq)]
+pub struct TraceLead {
+    /// 0 where it never was.
+    pub ticks: u64,
+    /// The first sample at which it was so many, counted from 0 over the whole trace.
+    pub at: u32,
+}
+
+/// A trace so far, all zeros at first. Every value of it is taken.
+#[repr(C)]
+#[derive(Clone, Copy, Debug, Default, PartialEq, Eq)]
+pub struct Trace {
+    pub samples: u32,
+    pub first: TraceChannel,
+    pub second: TraceChannel,
+    pub first_leads: TraceLead,
+    pub second_leads: TraceLead,
+}
+
+/// What a part of a trace gives.
+#[repr(C)]
+#[derive(Clone, Copy, Debug, PartialEq, Eq)]
+pub struct TraceFed {
+    /// 0 or a refusal's number.
+    pub refusal: u32,
+    /// As given where refused.
+    pub trace: Trace,
 }

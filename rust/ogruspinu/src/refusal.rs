@@ -4,7 +4,7 @@ use crate::raw;
 use std::error::Error;
 use std::fmt::{self, Display, Formatter};
 
-/// A refusal. Nothing that was lent has changed. 15 to 19 are document 02's, and no call of the library gives them yet.
+/// A refusal. Nothing that was lent has changed. 15 to 17 are document 02's, and no call of the library gives them yet.
 ///
 /// ```
 /// use ogruspinu::{Refusal, pll_settings::PllConfig};
@@ -53,7 +53,7 @@ pub enum Refusal {
     NotYours,
     /// 18: rows of lengths that do not belong together.
     BadRows,
-    /// 19: a part would make its trace too long.
+    /// 19: a part would make its trace longer than 16,777,216 samples.
     TraceLong,
     /// 20: a number is too wide for its field.
     BadField,
@@ -156,7 +156,7 @@ impl Display for Refusal {
             Self::Newer => write!(f, "the settings are of a later version"),
             Self::NotYours => write!(f, "the party does not hold the word, or cannot claim it"),
             Self::BadRows => write!(f, "the rows' lengths do not belong together"),
-            Self::TraceLong => write!(f, "the trace would become too long"),
+            Self::TraceLong => write!(f, "the trace would be longer than 16777216 samples"),
             Self::BadField => write!(f, "a number is too wide for its field"),
         }?;
         write!(f, " (refusal {})", self.number())

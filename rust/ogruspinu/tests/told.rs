@@ -1,4 +1,5 @@
-//! What the examples in the documentation leave out: every refusal by its number, and the ends of a sequence.
+//! What the examples in the documentation leave out: every refusal by its number, and the ends of a sequence and of a
+//! trace.
 #![cfg(archive)]
 use ogruspinu::Refusal;
 use ogruspinu::clocks::{Clocks, CpuClockRatio};
@@ -8,6 +9,7 @@ use ogruspinu::pll_start::{
     BootPllConfig, PllMarks, PllSequence, PllType, Request, configure_pll, configure_pll_unchecked,
 };
 use ogruspinu::time::Hertz;
+use ogruspinu::trace::{Lead, MOST_SAMPLES, Trace};
 
 /// The refusals' numbers and names as the specification has them.
 fn specified() -> Vec<(u32, String)> {
@@ -214,4 +216,28 @@ fn a_mark_is_set_by_an_answer_alone() {
     assert_eq!(start(PllType::Io, config, 1), (Ok(()), both));
     let all = PllMarks { ddr: true, ..both };
     assert_eq!(start(PllType::Ddr, config, 1), (Ok(()), all));
+}
+
+/// The clocks go 65,535 ticks a sample and one, so that each row goes on where it begins.
+#[test]
+fn a_trace_is_full_at_its_last_sample() {
+    let second: Vec<u16> = (0..=u16::MAX).collect();
+    let first: Vec<u16> = second.iter().map(|count| count.wrapping_neg()).collect();
+    let mut trace = Trace::new();
+    for _ in 0..256 {
+        trace.feed(&first, &second).expect("there is room");
+    }
+    let at = MOST_SAMPLES - 1;
+    assert_eq!(trace.samples(), MOST_SAMPLES);
+    assert_eq!(trace.first(), 65_535 * u64::from(at));
+    assert_eq!(trace.second(), u64::from(at));
+    assert_eq!(trace.difference(), 65_534 * i64::from(at));
+    let ticks = 65_534 * u64::from(at);
+    assert_eq!(trace.first_leads(), Lead { ticks, at });
+    assert_eq!(trace.second_leads(), Lead::default());
+    let full = trace.clone();
+    assert_eq!(trace.feed(&[], &[]), Ok(()));
+    assert_eq!(trace.feed(&[0], &[0]), Err(Refusal::TraceLong));
+    assert_eq!(trace.feed(&[0], &[]), Err(Refusal::BadRows));
+    assert_eq!(trace, full);
 }
