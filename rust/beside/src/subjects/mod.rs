@@ -16,6 +16,10 @@ mod starts;
 mod starts_formula;
 #[cfg(archive)]
 mod stepping;
+mod trace;
+mod trace_by_hand;
+mod trace_formula;
+mod trace_requests;
 mod ttc;
 mod two_stage;
 mod two_stage_frequency;
@@ -47,4 +51,5 @@ pub const SUBJECTS: &[&dyn Subject] = &[
     &gem::Gem,
     &ratios::Ratios,
     &update::Update,
+    &trace::Trace,
 ];
