@@ -1,4 +1,15 @@
 //! The subjects, a file each. A new one is its file and its two lines here.
+
+/// The faults of a formula that can be told to slip: each by its name and by the field of the formula's `Slips`.
+macro_rules! planted {
+    ($($name:literal: $slip:ident;)*) => {
+        vec![$($crate::subject::Fault($name, |n| {
+            let slips = Slips { $slip: true, ..Slips::default() };
+            slips.told(n)
+        })),*]
+    };
+}
+
 mod bypass;
 mod clocks;
 mod cpu_init;

@@ -92,15 +92,7 @@ impl Subject for Starts {
     }
 
     fn faults(&self) -> Vec<Fault> {
-        macro_rules! slips {
-            ($($name:literal: $slip:ident;)*) => {
-                vec![$(Fault($name, |n| {
-                    let slips = Slips { $slip: true, ..Slips::default() };
-                    slips.told(n)
-                })),*]
-            };
-        }
-        slips! {
+        planted! {
             "StartNeverMarks": never_marks;
             "UncheckedStartMarks": unchecked_marks;
             "RefusedStartMarks": refused_marks;

@@ -84,15 +84,7 @@ impl Subject for Trace {
     }
 
     fn faults(&self) -> Vec<Fault> {
-        macro_rules! slips {
-            ($($name:literal: $slip:ident;)*) => {
-                vec![$(Fault($name, |n| {
-                    let slips = Slips { $slip: true, ..Slips::default() };
-                    slips.told(n)
-                })),*]
-            };
-        }
-        slips! {
+        planted! {
             "StepWithoutWrapping": step_does_not_wrap;
             "LastSampleOfALead": last_sample_of_a_lead;
             "LongBeforeRows": long_before_rows;
