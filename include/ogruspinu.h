@@ -406,8 +406,8 @@ uint64_t ogr_ddr_init(uint32_t reference, uint32_t div_3x, uint32_t div_2x, uint
 /* ---- Traces ---- */
 
 /*
- * A part of a trace: the counts of two counters of 16 bits, such as two of the triple timer counters' channels, read at the same moments.
- * The trace so far goes in and comes back, so that it may be fed in parts of any length, and the numbers are those of one part.
+ * A part of a trace: the counts of two counters of 16 bits, such as two channels of a triple timer counter, read at the same moments.
+ * The trace so far goes in and comes back, so that it may be fed in parts of any length; nothing depends on how it was cut.
  *
  *     struct ogr_trace trace = {0};
  *     while (more(&first, &second, &len)) {
