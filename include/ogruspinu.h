@@ -48,7 +48,7 @@ enum ogr_refusal {
     OGR_NEWER = 16,        /* a settings record of a later version */
     OGR_NOT_YOURS = 17,    /* a word that the party does not hold, or cannot claim */
     OGR_BAD_ROWS = 18,     /* rows of lengths that do not belong together */
-    OGR_TRACE_LONG = 19,   /* a part would make its trace longer than OGR_TRACE_MOST samples */
+    OGR_TRACE_LONG = 19,   /* a part would make its trace longer than OGR_MOST_SAMPLES samples */
     OGR_BAD_FIELD = 20     /* a number does not fit its field, or there is no such PLL or IO clock */
 };
 
@@ -216,7 +216,7 @@ struct ogr_trace_fed {
 #define OGR_MOST_ACCESSES(reads_len) ((size_t)(reads_len) + 6)
 
 /* The most samples of a trace. */
-#define OGR_TRACE_MOST 16777216
+#define OGR_MOST_SAMPLES 16777216
 
 /* The I2C bus: its nominal frequencies in Hertz, and those that ogr_i2c aims at. */
 #define OGR_I2C_NORMAL_NOMINAL 100000
@@ -418,14 +418,14 @@ uint64_t ogr_ddr_init(uint32_t reference, uint32_t div_3x, uint32_t div_2x, uint
  *     }
  *
  * A channel's total is the sum of the steps from each count to the next, modulo 65,536. It is the ticks that really passed wherever fewer
- * than 65,536 pass between neighbouring samples: so OGR_TRACE_MOST samples hold ten hours of clocks below 30.5 MHz, and a prescaler brings
+ * than 65,536 pass between neighbouring samples: so OGR_MOST_SAMPLES hold ten hours of clocks below 30.5 MHz, and a prescaler brings
  * a faster clock there (ogr_ttc). At each sample the first leads by its total less the second's, or by 0 where that is not positive, and
  * the second the other way round; at sample 0 both lead by 0. The greatest lead is kept with the first sample that reached it.
  *
  * A part of length 0 changes nothing. A state that no trace has is a state like any other: where `samples` is 0 the part's first counts are
  * steps from themselves, whatever `last` is, and the totals go on from those given, modulo 2 to the 64.
  * Refusals, after which the state is as it was given: OGR_BAD_ROWS where the rows differ in length; then OGR_TRACE_LONG where the samples
- * so far and those of the part are more than OGR_TRACE_MOST, of a part of length 0 too.
+ * so far and those of the part are more than OGR_MOST_SAMPLES, of a part of length 0 too.
  */
 struct ogr_trace_fed ogr_trace_feed(struct ogr_trace trace, const uint16_t *first, size_t first_len, const uint16_t *second,
                                     size_t second_len);

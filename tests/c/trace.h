@@ -48,7 +48,7 @@ static void trace_in_parts(void)
 /* Rows of unequal length come before a trace too long, and the state stays. */
 static void trace_refused(void)
 {
-    const struct ogr_trace full = {OGR_TRACE_MOST, {1, 2}, {3, 4}, {5, 6}, {7, 8}};
+    const struct ogr_trace full = {OGR_MOST_SAMPLES, {1, 2}, {3, 4}, {5, 6}, {7, 8}};
     struct ogr_trace trace = full;
     for (size_t len = 0; len < SAMPLES; len++) {
         trace_is(HERE, ogr_trace_feed(whole_trace, firsts, len, seconds, SAMPLES), OGR_BAD_ROWS, whole_trace);
@@ -57,10 +57,10 @@ static void trace_refused(void)
     trace_is(HERE, ogr_trace_feed(no_trace, firsts, 1, NULL, 0), OGR_BAD_ROWS, no_trace);
     trace_is(HERE, ogr_trace_feed(full, firsts, 1, seconds, 1), OGR_TRACE_LONG, full);
     trace_is(HERE, ogr_trace_feed(full, NULL, 0, NULL, 0), 0, full);
-    trace.samples = OGR_TRACE_MOST - SAMPLES + 1;
+    trace.samples = OGR_MOST_SAMPLES - SAMPLES + 1;
     trace_is(HERE, ogr_trace_feed(trace, firsts, SAMPLES, seconds, SAMPLES), OGR_TRACE_LONG, trace);
-    same(HERE, "ogr_trace_feed", "the last sample", ogr_trace_feed(trace, firsts, 4, seconds, 4).trace.samples, OGR_TRACE_MOST);
-    for (uint32_t over = OGR_TRACE_MOST + 1; over > OGR_TRACE_MOST; over *= 2) {
+    same(HERE, "ogr_trace_feed", "the last sample", ogr_trace_feed(trace, firsts, 4, seconds, 4).trace.samples, OGR_MOST_SAMPLES);
+    for (uint32_t over = OGR_MOST_SAMPLES + 1; over > OGR_MOST_SAMPLES; over *= 2) {
         trace.samples = over;
         trace_is(HERE, ogr_trace_feed(trace, NULL, 0, NULL, 0), OGR_TRACE_LONG, trace);
         trace_is(HERE, ogr_trace_feed(trace, firsts, 1, seconds, 1), OGR_TRACE_LONG, trace);

@@ -8,7 +8,7 @@
 #include "trace_loop.h"
 
 enum { MOST_ROUNDS = 1001 };
-static uint16_t first[OGR_TRACE_MOST], second[OGR_TRACE_MOST];
+static uint16_t first[OGR_MOST_SAMPLES], second[OGR_MOST_SAMPLES];
 
 static struct ogr_trace ours(struct ogr_trace trace, const uint16_t *x, const uint16_t *y, size_t len)
 {
@@ -32,7 +32,7 @@ static uint32_t alike(void) { return 43000 + word() % 16; }
 static void make_rows(uint32_t (*gain)(void), uint32_t faster)
 {
     uint32_t x = 0, y = 0;
-    for (size_t i = 0; i < OGR_TRACE_MOST; i++) {
+    for (size_t i = 0; i < OGR_MOST_SAMPLES; i++) {
         first[i] = (uint16_t)(x += gain() + faster);
         second[i] = (uint16_t)(y += gain());
     }
@@ -42,9 +42,9 @@ static double timed(trace_loop *loop, struct ogr_trace *out)
 {
     struct timespec begin, end;
     clock_gettime(CLOCK_MONOTONIC, &begin);
-    *out = loop((struct ogr_trace){0}, first, second, OGR_TRACE_MOST);
+    *out = loop((struct ogr_trace){0}, first, second, OGR_MOST_SAMPLES);
     clock_gettime(CLOCK_MONOTONIC, &end);
-    return ((double)(end.tv_sec - begin.tv_sec) * 1e9 + (double)(end.tv_nsec - begin.tv_nsec)) / OGR_TRACE_MOST;
+    return ((double)(end.tv_sec - begin.tv_sec) * 1e9 + (double)(end.tv_nsec - begin.tv_nsec)) / OGR_MOST_SAMPLES;
 }
 
 static bool equal(struct ogr_trace a, struct ogr_trace b)

@@ -92,6 +92,7 @@ fn begun(trace: Trace, x: u16, y: u16) -> Trace
     ready
 }
 
+// Rows with a sample in them, for which there is room.
 fn through(trace: Trace, first: &[u16], second: &[u16]) -> Trace
     requires { ⌜ Fits trace (now first) (now second) ⌝ }
     ensures { λ r. ⌜ Onward trace (now (first .entry)) (now (second .entry)) r ⌝ }
@@ -123,6 +124,7 @@ fn sampled(trace: Trace, x: u16, y: u16) -> Trace
     }
 }
 
+// The counter may have passed zero since its last count. A total wraps in states alone that no trace has.
 fn counted(channel: Channel, count: u16) -> Channel
     ensures { λ r. ⌜ r ≡ counted channel count ⌝ }
 {
@@ -133,6 +135,7 @@ fn counted(channel: Channel, count: u16) -> Channel
     }
 }
 
+// A lead that is reached again keeps its first sample.
 fn raised(lead: Lead, ticks: u64, at: u32) -> Lead
     ensures { λ r. ⌜ r ≡ raised lead ticks at ⌝ }
 {
@@ -143,6 +146,7 @@ fn raised(lead: Lead, ticks: u64, at: u32) -> Lead
     }
 }
 
+// By how much a is ahead of b, if it is.
 fn ahead(a: u64, b: u64) -> u64
     ensures { λ r. ⌜ r ≡ a - b ⌝ }
 {

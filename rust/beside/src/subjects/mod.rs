@@ -30,6 +30,8 @@ mod stepping;
 mod trace;
 mod trace_by_hand;
 mod trace_formula;
+#[cfg(test)]
+mod trace_kinds;
 mod trace_requests;
 mod ttc;
 mod two_stage;
