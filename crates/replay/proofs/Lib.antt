@@ -1,0 +1,5 @@
+mod Printing
+pub mod Sampling
+pub mod Settled
+pub mod Splitting
+mod Turning
