@@ -1,13 +1,11 @@
 // The replay: a trace on standard input, four bytes a sample, and its numbers on standard output. A trace that has none gets one line on
 // standard error that says why.
 mod block;
-mod progress;
 mod read;
 mod report;
 
 use libc::STDERR_FILENO;
 use libc::STDOUT_FILENO;
-use progress::clear;
 use read::Outcome;
 use read::read_trace;
 use report::put_fault;
@@ -34,4 +32,8 @@ fn print(outcome: Outcome) {
             io::write_all(STDERR_FILENO, &text[..end]);
         }
     }
+}
+
+fn clear() {
+    io::write_all(STDERR_FILENO, b"\r\x1b[K");
 }

@@ -1,8 +1,8 @@
 // A trace read to its end, block by block. A sample may begin in one block and end in the next, so that its first bytes are held at the
 // input's front, and a read goes on behind them.
 use crate::block::feed_block;
-use crate::progress::show;
 use crate::report::Fault;
+use libc::STDERR_FILENO;
 use libc::STDIN_FILENO;
 use trace::Trace;
 use trace::nothing;
@@ -137,4 +137,17 @@ fn so_far(held: Held) -> u64
     ensures { λ r. ⌜ r ≡ so-far (held .trace) (held .count) ⌝ }
 {
     held.trace.samples as u64 * 4 + held.count as u64
+}
+
+// What a terminal shows: how many samples there are by now, in one line that changes once a second. The time, in seconds, is handed from
+// one call to the next.
+fn show(samples: u32, before: i64) -> i64 {
+    let mut second = before;
+    libc::time(&mut second);
+    if second != before {
+        io::write_all(STDERR_FILENO, b"\rreplay: ");
+        io::print_decimal(STDERR_FILENO, samples as u64);
+        io::write_all(STDERR_FILENO, b" samples");
+    }
+    second
 }

@@ -96,7 +96,8 @@ grown t p h now (bad-rows e) = absurd (e (length-firsts p ∙ sym (length-second
 grown t p h now (trace-long e k) = absurd (omega (arith, now .samples, length-append t p, length-firsts p))
 grown t p h now (goes-on e k on) = (refl, grows t p h now on)
 
-replayed : (t : List Sample) (parts : List (List Sample)) {s r : Trace} → length (t ++ all parts) ≤ MOST → Numbers t s → Replays s parts r
+-- whatever the parts, the state has the numbers of all of them
+pub replayed : (t : List Sample) (parts : List (List Sample)) {s r : Trace} → length (t ++ all parts) ≤ MOST → Numbers t s → Replays s parts r
     → Numbers (t ++ all parts) r
 replayed t [] {r = r} h now start = subst (λ (l : List Sample). Numbers l r) (sym (append-nil t)) now
 replayed t (p ∷ parts) {r = r} h now (part f rest) =

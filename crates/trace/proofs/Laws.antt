@@ -9,7 +9,7 @@ use Rattle.trace.specs.declared.Channel.{Channel}
 use Rattle.trace.specs.declared.Fed.{Fed}
 use Rattle.trace.specs.declared.Trace.{Trace}
 use Rattle.trace.specs.Difference.{difference}
-use Rattle.trace.specs.Numbers.{Sample, firsts, seconds, Numbers, nothing}
+use Rattle.trace.specs.Numbers.{Sample, firsts, seconds, ahead-at, Numbers, nothing}
 use Rattle.trace.specs.Parts.{MOST, Onward, fed, Feeds, bad-rows, trace-long, goes-on}
 use Rattle.trace.proofs.Going.{stays}
 use Rattle.trace.proofs.Joining.{fits}
@@ -44,6 +44,13 @@ only p q =
 
 pub of-none : Numbers [] nothing
 of-none = record { samples = refl; first = refl; second = refl; first-leads = none-yet; second-leads = none-yet }
+
+-- at the first sample nobody leads
+pub level-at-first : (xs ys : List ℕ) → ahead-at xs ys 0 ≡ 0
+level-at-first [] [] = refl
+level-at-first [] (y ∷ ys) = refl
+level-at-first (x ∷ xs) [] = refl
+level-at-first (x ∷ xs) (y ∷ ys) = refl
 
 -- an empty part changes nothing, at the limit too
 pub empty : {s : Trace} {f : Fed} → s .samples ≤ MOST → s .first .total < 2 ^ 64 → s .second .total < 2 ^ 64 → Feeds s [] [] f → f ≡ fed 0 s
