@@ -119,7 +119,8 @@ pub done : {s r c : Trace} {xs ys : List ℕ} {i : ℕ} → length xs ≡ length
     → Going xs ys r c i → length xs ≤ i → Onward s xs ys c
 done {s} {r} {c} {xs} {ys} {i} as-long some r-is g end =
     let n : i ≡ length xs = omega (arith, g .bound) in
-    let all : Going xs ys (ready s xs ys) c (length xs) = subst (λ (k : ℕ). Going xs ys (ready s xs ys) c k) n (subst (λ (t : Trace). Going xs ys t c i) (r-is ∙ begun-ready s xs ys some (omega arith)) g) in
+    let from-ready = subst (λ (t : Trace). Going xs ys t c i) (r-is ∙ begun-ready s xs ys some (omega arith)) g in
+    let all = subst (Going xs ys (ready s xs ys) c) n from-ready in
     record {
       samples = all .samples;
       first = all .first ∙ ap (channel _) (ends _ xs ∙ any-other _ _ xs some);

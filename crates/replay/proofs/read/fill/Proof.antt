@@ -13,7 +13,13 @@ fill-spec =
     (λ c. search needs)
     (λ c κs. search needs)
     (λ c. search needs)
-    (λ c. filled _ _ (c .before .before .before .before .before .read .last .1 .0) (c .before .before .before .before .before .before .before .before .before .pre) tt)
+    (λ c.
+        let l = c .before .before .before .before .before in
+        let m = l .before .before .before .before in
+        filled _ _ (l .read .last .1 .0) (m .pre) tt)
     (λ c κs. search needs)
     (λ c. search needs)
-    (λ c. filled _ _ (c .before .before .before .before .before .before .before .read .last .1 .0) (c .before .before .before .before .before .before .before .before .before .before .before .pre) (search needs)))
+    (λ c.
+        let l = c .before .before .before .before .before .before .before in
+        let m = l .before .before .before .before in
+        filled _ _ (l .read .last .1 .0) (m .pre) (search needs)))

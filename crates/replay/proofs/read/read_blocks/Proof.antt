@@ -25,14 +25,27 @@ read-blocks-spec =
     (λ c. omega arith)
     (λ c κs. (c .before .before .loop .inv .1, omega (arith, c .before .before .loop .inv .0 .few)))
     (λ c. search needs)
-    (λ c. c .before .before .before .before .before .take-turn .kept .0 ∙ c .before .before .before .before .before .before .before .before .loop .inv .1 ∙ sym (c .before .before .before .before .before .before .before .before .before .before .before .pre))
-    (λ c. done (c .before .before .before .before .before .before .before .before .loop .inv .0) (c .before .before .before .before .before .take-turn .ensures) (c .before .outcome .given .1))
+    (λ c.
+        let l = c .before .before .before .before .before in
+        let m = l .before .before .before in
+        let n = m .before .before .before in
+        l .take-turn .kept .0 ∙ m .loop .inv .1 ∙ sym (n .pre))
+    (λ c.
+        let l = c .before .before .before .before .before in
+        let m = l .before .before .before in
+        done (m .loop .inv .0) (l .take-turn .ensures) (c .before .outcome .given .1))
     (λ c. search needs)
     (λ c κs. tt)
     (λ c. omega arith)
-    (λ c. (one-more (c .before .before .before .before .before .before .before .before .before .before .loop .inv .0) (c .before .before .before .before .before .before .before .take-turn .ensures) (c .before .before .before .next .given .1), c .before .before .before .before .before .before .before .take-turn .kept .0 ∙ c .before .before .before .before .before .before .before .before .before .before .loop .inv .1))
+    (λ c.
+        let l = c .before .before .before .before .before .before .before in
+        let m = l .before .before .before in
+        (one-more (m .loop .inv .0) (l .take-turn .ensures) (c .before .before .before .next .given .1), l .take-turn .kept .0 ∙ m .loop .inv .1))
     (λ c. omega arith)
-    (λ c. (one-more (c .before .before .before .before .before .before .before .before .before .loop .inv .0) (c .before .before .before .before .before .before .take-turn .ensures) (c .before .before .next .given .1), c .before .before .before .before .before .before .take-turn .kept .0 ∙ c .before .before .before .before .before .before .before .before .before .loop .inv .1))
+    (λ c.
+        let l = c .before .before .before .before .before .before in
+        let m = l .before .before .before in
+        (one-more (m .loop .inv .0) (l .take-turn .ensures) (c .before .before .next .given .1), l .take-turn .kept .0 ∙ m .loop .inv .1))
     (λ c κs. omega (arith, c .before .loop .inv .0 .few))
     (λ c. c .before .before .loop .inv .1 ∙ sym (c .before .before .before .before .before .pre))
     (λ c. given-up (c .before .before .loop .inv .0) (omega (arith, c .before .before .loop .inv .0 .few, c .before .before .loop .inv .1)) (c .so-far .ensures)))

@@ -16,7 +16,13 @@ take-block-spec =
     (λ c. sym (length-take-le _ _ (omega arith)))
     (λ c κs. search needs)
     (λ c. search needs)
-    (λ c. no-more (now (c .before .before .before .before .before .before .args .input)) (c .before .before .before .before .before .before .args .filled) (omega arith) (omega arith) (c .before .before .before .feed-block .ensures) (c .if1 .taken))
+    (λ c.
+        let l = c .before .before .before .before .before .before in
+        no-more (now (l .args .input)) (l .args .filled) (omega arith) (omega arith) (c .before .before .before .feed-block .ensures) (c .if1 .taken))
     (λ c κs. search needs)
     (λ c. search needs)
-    (λ c. goes-on (now (c .before .before .before .before .before .before .before .before .before .before .before .args .input)) (c .before .before .before .before .before .before .before .before .before .before .before .args .filled) (omega arith) (omega arith) (c .before .before .before .before .before .before .before .before .feed-block .ensures) (c .before .before .before .before .before .if1 .left) (c .before .before .keep .ensures)))
+    (λ c.
+        let l = c .before .before .before .before .before in
+        let m = l .before .before .before in
+        let n = m .before .before .before in
+        goes-on (now (n .args .input)) (n .args .filled) (omega arith) (omega arith) (m .feed-block .ensures) (l .if1 .left) (c .before .before .keep .ensures)))

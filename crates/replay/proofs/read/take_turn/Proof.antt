@@ -16,10 +16,23 @@ take-turn-spec =
     (λ c. search needs)
     (λ c κs. search needs)
     (λ c. search needs)
-    (λ c. ended (now (c .before .before .before .before .before .before .before .before .before .before .args .input)) (c .before .before .before .before .before .before .before .before .before .before .args .held .count) (omega arith) (c .at-end .ensures))
-    (λ c. omega (arith, room-for (c .before .before .before .before .before .before .before .before .fill .ensures) (c .before .before .before .before .got .given .1)))
-    (λ c κs. omega (arith, room-for (c .before .before .before .before .before .before .before .before .fill .ensures) (c .before .before .before .before .got .given .1), c .before .before .before .before .before .before .before .before .fill .kept .0))
+    (λ c.
+        let l = c .before .before .before .before .before .before .before .before .before .before in
+        ended (now (l .args .input)) (l .args .held .count) (omega arith) (c .at-end .ensures))
+    (λ c.
+        let l = c .before .before .before .before in
+        let m = l .before .before .before .before in
+        omega (arith, room-for (m .fill .ensures) (l .got .given .1)))
+    (λ c κs.
+        let l = c .before .before .before .before in
+        let m = l .before .before .before .before in
+        omega (arith, room-for (m .fill .ensures) (l .got .given .1), m .fill .kept .0))
     (λ c. search needs)
-    (λ c. failed (now (c .before .before .before .before .before .before .before .before .args .input)) (c .before .before .before .before .before .before .before .before .args .held .count) (omega arith) (c .so-far .ensures))
+    (λ c.
+        let l = c .before .before .before .before .before .before .before .before in
+        failed (now (l .args .input)) (l .args .held .count) (omega arith) (c .so-far .ensures))
     (λ c. search needs)
-    (λ c. read-on (now (c .before .before .before .before .before .before .before .before .before .before .before .before .before .before .args .input)) (c .before .before .before .before .before .before .before .before .before .before .before .fill .last .0) (c .before .before .before .before .before .before .before .before .before .before .before .before .before .before .args .held .count) _ (c .before .before .before .before .before .before .before .before .before .before .before .fill .ensures .front) (c .before .before .take-block .ensures)))
+    (λ c.
+        let l = c .before .before .before .before .before .before .before .before .before .before .before in
+        let m = l .before .before .before in
+        read-on (now (m .args .input)) (l .fill .last .0) (m .args .held .count) _ (l .fill .ensures .front) (c .before .before .take-block .ensures)))

@@ -12,6 +12,14 @@ put-lead-spec =
     (λ c κs. search needs)
     (λ c. search needs)
     (λ c. search needs)
-    (λ c κs. room-for-at _ (c .before .before .before .before .before .before .before .before .before .put-bytes .ensures) (c .before .before .before .before .before .put-decimal .ensures) (c .before .before .before .before .before .before .before .before .before .before .before .before .before .pre))
+    (λ c κs.
+        let l = c .before .before .before .before .before in
+        let m = l .before .before .before .before in
+        let n = m .before .before .before .before in
+        room-for-at _ (m .put-bytes .ensures) (l .put-decimal .ensures) (n .pre))
     (λ c. search needs)
-    (λ c. led _ (c .before .before .before .before .before .before .before .before .before .before .before .before .put-bytes .ensures) (c .before .before .before .before .before .before .before .before .put-decimal .ensures) (c .before .before .before .before .before .before .before .before .before .before .before .before .before .before .before .before .pre) (c .before .before .put-line .ensures)))
+    (λ c.
+        let l = c .before .before .before .before .before .before .before .before in
+        let m = l .before .before .before .before in
+        let n = m .before .before .before .before in
+        led _ (m .put-bytes .ensures) (l .put-decimal .ensures) (n .pre) (c .before .before .put-line .ensures)))

@@ -8,7 +8,17 @@ use Rattle.replay.proofs.report.put_report.Statement.{statement}
 use Rattle.replay.proofs.report.put_report.Tie as tie
 
 returns-2 : tie.Need-returns-2
-returns-2 c = kept (omega (arith, c .before .before .before .before .before .before .before .before .before .before .before .before .before .before .before .before .before .before .before .before .before .before .before .before .before .before .before .before .before .before .if1 .left, c .before .before .before .before .before .before .before .before .before .before .before .before .before .before .before .before .before .before .before .before .before .before .before .before .before .before .before .before .before .before .before .room .ensures)) (reported _ (c .before .before .before .before .before .before .before .before .before .before .before .before .before .before .before .before .before .before .before .before .before .before .before .before .before .before .put-line .ensures) (c .before .before .before .before .before .before .before .before .before .before .before .before .before .before .before .before .before .before .before .before .before .put-line2 .ensures) (c .before .before .before .before .before .before .before .before .before .before .before .before .before .before .before .before .put-line3 .ensures) (c .before .before .before .before .before .before .before .before .before .before .before .before .put-difference .ensures) (c .before .before .before .before .before .before .before .put-lead .ensures) (c .before .before .put-lead2 .ensures))
+returns-2 c =
+    let sixth = c .before .before in
+    let fifth = sixth .before .before .before .before .before in
+    let fourth = fifth .before .before .before .before .before in
+    let third = fourth .before .before .before .before in
+    let second = third .before .before .before .before .before in
+    let first = second .before .before .before .before .before in
+    let tested = first .before .before .before .before in
+    kept (omega (arith, tested .if1 .left, tested .before .room .ensures))
+      (reported _ (first .put-line .ensures) (second .put-line2 .ensures) (third .put-line3 .ensures) (fourth .put-difference .ensures)
+        (fifth .put-lead .ensures) (sixth .put-lead2 .ensures))
 
 pub put-report-spec : {M : Type 1} → statement M
 put-report-spec =
