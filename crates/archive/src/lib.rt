@@ -1,5 +1,7 @@
 // The calls for programs in C and Rust: each hands on what its crate tells, and include/ogruspinu.h says it call by call.
 // Numbers pass as themselves, a row of words as a pointer and a length, a struct by value.
+#![tactic(auto)]
+
 mod pll;
 mod records;
 

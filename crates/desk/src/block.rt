@@ -9,7 +9,7 @@ use words::until;
 
 // How far the block has been used, how much has been written, whether the rest of a line is to be swallowed, and whether
 // there is more to answer once the buffer has been emptied.
-#[derive(Drop)]
+#[derive(Clone, Copy)]
 pub struct Step {
     pub used: usize,
     pub written: usize,
@@ -48,6 +48,7 @@ pub fn answer_block(input: &[u8], from: usize, swallowing: bool, out: &mut [u8])
 
 // The same where a line begins. What is left of a line is kept unless even a carriage return at its end would leave it too
 // long; then it is answered.
+#[tactic(auto, using(crate::proofs::Stepping::fresh_long))]
 fn answer_fresh(input: &[u8], from: usize, out: &mut [u8]) -> Step
     requires { from ≤ length input.now }
     ensures { Block input.now from false out.old out.new result }

@@ -10,12 +10,13 @@ use desk_requests::answer_request;
 use text::{put_byte, put_bytes};
 
 // Where the answer ends, or that the buffer has not room for the longest answer and nothing was written.
-#[derive(Drop)]
+#[derive(Clone, Copy)]
 pub enum Answered {
     At(usize),
     NoRoom,
 }
 
+#[tactic(auto, using(crate::proofs::Lines::long_line, crate::proofs::Lines::request_line))]
 pub fn answer_line(line: &[u8], out: &mut [u8], at: usize) -> Answered
     ensures { LineAnswered line.now out.old at out.new result }
 {

@@ -1,18 +1,20 @@
 // The desk: requests on standard input, one a line, and an answer to each on standard output, in order. What is answered to a line
 // stands in `line`, and to the lines of a block in `block`; here bytes are read and written.
+#![tactic(auto)]
+
 mod block;
 mod line;
 
 ghost use Rattle.std.specs.Prelude.{◌+◌, ◌≤◌, length};
 
 use block::answer_block;
-use libc::{STDIN_FILENO, STDOUT_FILENO};
 use line::{Answered, answer_line};
+use std::io::Read;
 use words::keep;
 
 // What is left of a block: how far it was used, whether the rest of a line is to be swallowed, and whether the answers
 // could be written.
-#[derive(Drop)]
+#[derive(Clone, Copy)]
 struct Drained {
     used: usize,
     swallowing: bool,
@@ -21,22 +23,22 @@ struct Drained {
 
 // What is kept from one read to the next: how many bytes of a line stand at the input's front, whether the rest of a line is
 // to be swallowed, and whether there is more to do.
-#[derive(Drop)]
+#[derive(Clone, Copy)]
 struct Held {
     count: usize,
     swallowing: bool,
     going: bool,
 }
 
-fn main() {
-    let mut input = io::large_buffer();
-    let mut output = io::large_buffer();
-    run(&mut input, &mut output);
+fn main(rt: HostRuntime) {
+    let mut input = [0; 65536];
+    let mut output = [0; 65536];
+    run(rt, &mut input, &mut output);
 }
 
 // A proved loop has to end, and nothing says that the input does: so it counts its turns down, from a number that no run
 // uses up.
-fn run(input: &mut [u8], output: &mut [u8]) {
+fn run(rt: HostRuntime, input: &mut [u8], output: &mut [u8]) {
     let mut held = Held {
         count: 0,
         swallowing: false,
@@ -45,7 +47,7 @@ fn run(input: &mut [u8], output: &mut [u8]) {
     let mut turns = u64::MAX;
     while turns > 0 {
         turns -= 1;
-        held = turn(input, output, held);
+        held = turn(rt, input, output, held);
         if !held.going {
             return;
         }
@@ -53,15 +55,15 @@ fn run(input: &mut [u8], output: &mut [u8]) {
 }
 
 // One read, and the answers to what came; at the end of the input the answer to what is held.
-fn turn(input: &mut [u8], output: &mut [u8], held: Held) -> Held
+fn turn(rt: HostRuntime, input: &mut [u8], output: &mut [u8], held: Held) -> Held
     requires { held.count ≤ length input.old }
     ensures { result.count ≤ length input.old }
 {
     let count = held.count;
-    let got = fill(input, count);
+    let got = fill(rt, input, count);
     if got == 0 {
         if !held.swallowing {
-            finish(&input[..count], output);
+            finish(rt, &input[..count], output);
         }
         return Held {
             count: 0,
@@ -70,7 +72,7 @@ fn turn(input: &mut [u8], output: &mut [u8], held: Held) -> Held
         };
     }
     let filled = count + got;
-    let drained = drain(&input[..filled], held.swallowing, output);
+    let drained = drain(rt, &input[..filled], held.swallowing, output);
     let left = keep(input, drained.used, filled);
     Held {
         count: left,
@@ -79,18 +81,20 @@ fn turn(input: &mut [u8], output: &mut [u8], held: Held) -> Held
     }
 }
 
-// One read, to the place after what is held.
-fn fill(input: &mut [u8], held: usize) -> usize
+// One read, to the place after what is held. One that fails counts as the end of the input.
+fn fill(rt: HostRuntime, input: &mut [u8], held: usize) -> usize
     requires { held ≤ length input.old }
     ensures { held + result ≤ length input.old }
 {
-    let free = &mut input[held..];
-    let got = libc::read(STDIN_FILENO, free);
-    io::count(got, free)
+    let mut stdin = rt.stdin();
+    match stdin.read(&mut input[held..]) {
+        Ok(got) => got,
+        Err(_) => 0,
+    }
 }
 
 // Answers every line that ends in the input, and writes each time that the buffer has filled up.
-fn drain(input: &[u8], swallowing: bool, output: &mut [u8]) -> Drained
+fn drain(rt: HostRuntime, input: &[u8], swallowing: bool, output: &mut [u8]) -> Drained
     ensures { result.used ≤ length input.now }
 {
     let mut used = 0;
@@ -102,7 +106,7 @@ fn drain(input: &[u8], swallowing: bool, output: &mut [u8]) -> Drained
         let written = step.written;
         used = step.used;
         swallow = step.swallowing;
-        if !io::write_all(STDOUT_FILENO, &output[..written]) {
+        if rt.write_all(&output[..written]).is_err() {
             break;
         }
         if !step.full {
@@ -120,9 +124,9 @@ fn drain(input: &[u8], swallowing: bool, output: &mut [u8]) -> Drained
     }
 }
 
-// The last line, which may lack its newline.
-fn finish(line: &[u8], output: &mut [u8]) {
+// The last line, which may lack its newline. Nothing comes behind it, so that it is not asked whether it could be written.
+fn finish(rt: HostRuntime, line: &[u8], output: &mut [u8]) {
     if let Answered::At(end) = answer_line(line, output, 0) {
-        io::write_all(STDOUT_FILENO, &output[..end]);
+        let _ = rt.write_all(&output[..end]);
     }
 }

@@ -7,7 +7,7 @@ ghost use Rattle.replay.specs.Block.{BLOCK, Takes, not_taken, Rows};
 use trace::{Fed, Trace, feed};
 
 // What the samples came to, and how many bytes they had.
-#[derive(Drop)]
+#[derive(Clone, Copy)]
 pub struct Taken {
     pub fed: Fed,
     pub used: usize,

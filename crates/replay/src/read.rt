@@ -7,45 +7,46 @@ ghost use Rattle.replay.specs.Turns.{so_far, at_end, Filled, Advances, Turned};
 
 use crate::block::feed_block;
 use crate::report::Fault;
-use libc::{STDERR_FILENO, STDIN_FILENO};
+use std::io::Read;
+use std::time::Clock;
 use trace::{Trace, nothing};
 use words::keep;
 
 // The state, and how many bytes of an unfinished sample stand at the input's front.
-#[derive(Drop)]
+#[derive(Clone, Copy)]
 pub struct Held {
     pub trace: Trace,
     pub count: usize,
 }
 
-#[derive(Drop)]
+#[derive(Clone, Copy)]
 pub enum Got {
     Bytes(usize),
     Failed,
 }
 
-#[derive(Drop)]
+#[derive(Clone, Copy)]
 pub enum Outcome {
     Whole(Trace),
     Broken(Fault),
 }
 
-#[derive(Drop)]
+#[derive(Clone, Copy)]
 pub enum Turn {
     More(Held),
     Ended(Outcome),
 }
 
 // On a terminal it shows how far it is.
-pub fn read_trace(shown: bool) -> Outcome
+pub fn read_trace(rt: HostRuntime, shown: bool) -> Outcome
     ensures { Told result }
 {
-    let mut input = io::large_buffer();
-    read_blocks(&mut input, shown)
+    let mut input = [0; 65536];
+    read_blocks(rt, &mut input, shown)
 }
 
 // A proved loop has to end, and nothing says that the input does: so it counts its turns down, from a number that no run uses up.
-fn read_blocks(input: &mut [u8], shown: bool) -> Outcome
+fn read_blocks(rt: HostRuntime, input: &mut [u8], shown: bool) -> Outcome
     requires { length input.old ≡ BLOCK }
     ensures { Told result }
 {
@@ -57,7 +58,7 @@ fn read_blocks(input: &mut [u8], shown: bool) -> Outcome
     let mut turns = u64::MAX;
     while turns > 0 {
         turns -= 1;
-        match take_turn(input, held) {
+        match take_turn(rt, input, held) {
             Turn::Ended(outcome) => {
                 return outcome;
             }
@@ -66,19 +67,19 @@ fn read_blocks(input: &mut [u8], shown: bool) -> Outcome
             }
         }
         if shown {
-            second = show(held.trace.samples, second);
+            second = show(rt, held.trace.samples, second);
         }
     }
     Outcome::Broken(Fault::Unreadable(so_far(held)))
 }
 
 // One read, and what came of it.
-fn take_turn(input: &mut [u8], held: Held) -> Turn
+fn take_turn(rt: HostRuntime, input: &mut [u8], held: Held) -> Turn
     requires { (length input.old ≡ BLOCK) × (held.count ≤ BLOCK) }
     ensures { Turned held.trace (take held.count input.old) input.new result }
 {
     let count = held.count;
-    match fill(input, count) {
+    match fill(rt, input, count) {
         Got::Failed => Turn::Ended(Outcome::Broken(Fault::Unreadable(so_far(held)))),
         Got::Bytes(got) => {
             if got == 0 {
@@ -91,16 +92,15 @@ fn take_turn(input: &mut [u8], held: Held) -> Turn
 }
 
 // One read, to the place after what is held. It fails, or gives some bytes, or none at the end.
-fn fill(input: &mut [u8], held: usize) -> Got
+fn fill(rt: HostRuntime, input: &mut [u8], held: usize) -> Got
     requires { held ≤ length input.old }
     ensures { Filled held input.old input.new result }
 {
-    let free = &mut input[held..];
-    let got = libc::read(STDIN_FILENO, free);
-    if got < 0 {
-        return Got::Failed;
+    let mut stdin = rt.stdin();
+    match stdin.read(&mut input[held..]) {
+        Ok(got) => Got::Bytes(got),
+        Err(_) => Got::Failed,
     }
-    Got::Bytes(io::count(got, free))
 }
 
 // The bytes that the input has by now: their samples go into the state, and what is left of one is moved to the front.
@@ -141,14 +141,14 @@ fn so_far(held: Held) -> u64
 }
 
 // What a terminal shows: how many samples there are by now, in one line that changes once a second. The time, in seconds, is handed from
-// one call to the next.
-fn show(samples: u32, before: i64) -> i64 {
-    let mut second = before;
-    libc::time(&mut second);
+// one call to the next; a clock that cannot be read shows nothing.
+fn show(rt: HostRuntime, samples: u32, before: u64) -> u64 {
+    let second = match rt.since_1970() {
+        Ok(time) => time.as_secs(),
+        Err(_) => before,
+    };
     if second != before {
-        io::write_all(STDERR_FILENO, b"\rreplay: ");
-        io::print_decimal(STDERR_FILENO, samples as u64);
-        io::write_all(STDERR_FILENO, b" samples");
+        let _ = eprint!(rt; "\rreplay: {samples} samples");
     }
     second
 }

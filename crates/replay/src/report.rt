@@ -8,7 +8,7 @@ use text::{put_byte, put_bytes, put_decimal, room};
 use trace::{Lead, Trace};
 
 // Why a trace has no report: it is longer than can be, ends inside a sample at this length, or cannot be read after so many bytes.
-#[derive(Drop)]
+#[derive(Clone, Copy)]
 pub enum Fault {
     TooLong,
     Unfinished(u64),
