@@ -24,7 +24,7 @@ use Rattle.evaluation.specs.Evaluated.{evaluated, judged}
 use Rattle.evaluation.specs.Formulas.{clocks_of}
 use Rattle.gem.specs.Gem.{outputs_in}
 use Rattle.pll_rows.specs.declared.PllPlan.{PllPlan}
-use Rattle.pll_rows.specs.Sequence.{Row, read, write, poll, Access, Log, Ending, locked, timed_out, starved, a_read, a_write, after, seen, reads, polls, log, sequence, accesses_of}
+use Rattle.pll_rows.specs.Sequence.{Row, read, write, poll, Access, Log, locked, timed_out, starved, a_read, a_write, after, seen, reads, polls, log, sequence, accesses_of}
 use Rattle.bypass.specs.InUse.{InUse}
 use Rattle.bypass.proofs.Refusals.{of_50}
 

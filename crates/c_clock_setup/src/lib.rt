@@ -1,4 +1,6 @@
 // The clocks of the CPU's and the DDR's set-up, told as numbers.
+#![tactic(auto)]
+
 ghost use Rattle.std.specs.Prelude.{◌≡◌};
 ghost use Rattle.handing.specs.Handed.{Handed};
 ghost use Rattle.c_clock_setup.specs.Tells.{CpuInitTells, DdrInitTells, ratio_of};

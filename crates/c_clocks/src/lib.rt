@@ -1,4 +1,6 @@
 // Every clock of an image, told as numbers, and an IO clock set anew in a row of them.
+#![tactic(auto)]
+
 ghost use Rattle.std.specs.Prelude.{◌≡◌, ℕ};
 ghost use Rattle.handing.specs.Handed.{Handed, coded};
 ghost use Rattle.evaluation.specs.Evaluated.{told_error};

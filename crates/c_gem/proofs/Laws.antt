@@ -1,9 +1,8 @@
 -- A row of clocks and a word have one result, and one thing is handed back. Assumes nothing.
-use Prim.Native.Nat.{ℕ, ◌≤◌, ◌<◌}
-use mathlib.Core.Path.{◌≡◌, sym, ◌∙◌}
+use Prim.Native.Nat.{ℕ}
+use mathlib.Core.Path.{◌≡◌}
 use mathlib.Core.Bool.{Bool}
 use mathlib.Core.List.{List}
-use lib.ListN.{length}
 use Rattle.bounds.proofs.Bound.{both}
 use Rattle.gem.proofs.Laws.{same}
 use Rattle.handing.proofs.Unique.{Single, single, settled, alike}

@@ -1,4 +1,6 @@
 // The reference clock of an Ethernet controller, from a row of clocks that evaluation filled and the controller's word, told as numbers.
+#![tactic(auto)]
+
 ghost use Rattle.std.specs.Prelude.{◌≡◌};
 ghost use Rattle.c_gem.specs.Tells.{GemHanded, gem_module};
 

@@ -1,4 +1,6 @@
 // The I2C divisors and the speed that they make, told as numbers.
+#![tactic(auto)]
+
 ghost use Rattle.std.specs.Prelude.{◌≡◌, ◌+◌};
 ghost use Rattle.i2c.specs.Divisors.{clock};
 ghost use Rattle.handing.specs.Handed.{Handed};

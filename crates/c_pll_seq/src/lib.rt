@@ -1,4 +1,6 @@
 // A whole run of the PLL sequence for a program in C: an unchecked start, and the accesses in three lent rows.
+#![tactic(auto)]
+
 ghost use Rattle.std.specs.Prelude.{◌≡◌, []};
 ghost use Rattle.refusals.specs.Told.{refused};
 ghost use Rattle.pll_seq.specs.Record.{rows, ending, told};
@@ -12,7 +14,7 @@ use pll_start::Start;
 
 // 0 or a refusal; how the run ended; how many accesses it made, or with refusal 9 how many records each of the rows must hold.
 #[repr(C)]
-#[derive(Drop)]
+#[derive(Clone, Copy)]
 pub struct Ran {
     pub refusal: u32,
     pub end: u32,

@@ -1,4 +1,6 @@
 // The settings of a PLL, by multiplier and by target, told as numbers.
+#![tactic(auto)]
+
 ghost use Rattle.handing.specs.Handed.{Handed};
 ghost use Rattle.c_pll_settings.specs.Tells.{PllMulTells, PllTargetTells};
 

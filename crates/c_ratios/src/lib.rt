@@ -1,4 +1,6 @@
 // The exact ratios of the four PL clocks, told as numbers.
+#![tactic(auto)]
+
 ghost use Rattle.std.specs.Prelude.{◌≡◌, ◌++◌, ◌≤◌, length, drop};
 ghost use Rattle.handing.specs.Handed.{Handed};
 ghost use Rattle.ratio_table.specs.Table.{Square};

@@ -1,4 +1,6 @@
 // The TTC's prescaler and interval ticks, told as numbers.
+#![tactic(auto)]
+
 ghost use Rattle.std.specs.Prelude.{◌≡◌};
 ghost use Rattle.handing.specs.Handed.{Handed};
 ghost use Rattle.c_ttc.specs.Tells.{TtcTells, prescaler_word};

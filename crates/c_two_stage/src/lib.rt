@@ -1,4 +1,6 @@
 // The two-stage divisors, told as numbers.
+#![tactic(auto)]
+
 ghost use Rattle.std.specs.Prelude.{◌≡◌};
 ghost use Rattle.two_stage.specs.Best.{frequency};
 ghost use Rattle.handing.specs.Handed.{Handed};

@@ -1,5 +1,7 @@
 // The UART's best pair of divisors, told as numbers, and the number that the list of viable pairs gives. The list itself is in crate
 // archive: only there can a program lend it records.
+#![tactic(auto)]
+
 ghost use Rattle.handing.specs.Handed.{Handed};
 ghost use Rattle.c_uart.specs.Tells.{UartTells};
 ghost use Rattle.c_uart.specs.Listed.{Coded};

@@ -1,5 +1,7 @@
 // What evaluation checks, in document 01's order, and the first check that a crystal and an image break. Each check hands on the
 // reason of an earlier one.
+#![tactic(auto)]
+
 ghost use Rattle.std.specs.Prelude.{◌≡◌, ℕ};
 ghost use Rattle.checks.specs.Check.{broken, zero, overflows, reason};
 ghost use Rattle.checks.specs.Check.{nonzero as nonzero_check, dual_checks, fits as fits_check};
@@ -16,7 +18,7 @@ use registers::{
 };
 use sources::pll_output;
 
-#[derive(Drop)]
+#[derive(Clone, Copy)]
 pub enum Rule {
     // The field is not 0.
     NonZero,
@@ -25,7 +27,7 @@ pub enum Rule {
 }
 
 // A rule for a field of a word, and the module that is named where the rule is broken.
-#[derive(Drop)]
+#[derive(Clone, Copy)]
 pub struct Check {
     pub word: usize,
     pub field: Field,
@@ -33,7 +35,7 @@ pub struct Check {
     pub id: ClockModuleId,
 }
 
-#[derive(Drop)]
+#[derive(Clone, Copy)]
 pub enum Reason {
     Nothing,
     Broken(Check),

@@ -1,19 +1,21 @@
 // The pure parts of the CPU and DDR clock set-up: document 01, "Evaluation". Divisors are plain numbers, as a caller would put them
 // into their fields of six bits.
+#![tactic(auto)]
+
 ghost use Rattle.clock_setup.specs.Cpu.{CpuRight, told_cpu};
 ghost use Rattle.clock_setup.specs.Ddr.{DdrRight, told_ddr};
 
 use clocks::arm::{ArmClocks, CpuClockRatio};
 use clocks::ddr::DdrClocks;
 
-#[derive(Drop)]
+#[derive(Clone, Copy)]
 pub enum CpuSetup {
     Clocks(ArmClocks),
     DivisorZero,
     BadField,
 }
 
-#[derive(Drop)]
+#[derive(Clone, Copy)]
 pub enum DdrSetup {
     Clocks(DdrClocks),
     DivisorZero,

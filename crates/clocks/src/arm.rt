@@ -1,13 +1,13 @@
 // The CPU's clocks.
 ghost use Rattle.std.specs.Prelude.{◌≡◌};
 
-#[derive(Drop)]
+#[derive(Clone, Copy)]
 pub enum CpuClockRatio {
     FourToTwoToOne,
     SixToTwoToOne,
 }
 
-#[derive(Drop)]
+#[derive(Clone, Copy)]
 pub struct ArmClocks {
     // The ARM PLL's output, whatever the source field selects: as in the Rust.
     pub ref_clk: u32,

@@ -1,7 +1,7 @@
 // The DDR memory's clocks.
 ghost use Rattle.std.specs.Prelude.{◌≡◌};
 
-#[derive(Drop)]
+#[derive(Clone, Copy)]
 pub struct DdrClocks {
     pub ref_clk: u32,
     pub ddr_3x_clk: u32,

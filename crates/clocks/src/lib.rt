@@ -1,4 +1,6 @@
 // The record of every clock, with the shape and names of the Rust's `Clocks`, and what it hands out. All frequencies are Hertz.
+#![tactic(auto)]
+
 pub mod arm;
 pub mod ddr;
 pub mod module_id;
@@ -11,7 +13,7 @@ use ddr::DdrClocks;
 use io_clocks::IoClocks;
 
 // The four clocks of the programmable logic.
-#[derive(Drop)]
+#[derive(Clone, Copy)]
 pub struct PlClocks {
     pub fclk_0: u32,
     pub fclk_1: u32,
@@ -19,7 +21,7 @@ pub struct PlClocks {
     pub fclk_3: u32,
 }
 
-#[derive(Drop)]
+#[derive(Clone, Copy)]
 pub struct Clocks {
     pub ps_clk: u32,
     pub arm_pll_out: u32,

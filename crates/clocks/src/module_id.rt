@@ -3,7 +3,7 @@ ghost use Rattle.std.specs.Prelude.{◌≡◌};
 ghost use Rattle.clocks.specs.Module.{module_number};
 
 // In the order of the Rust's `ClockModuleId`, which gives the numbers 0 to 13. The order in which evaluation checks is another.
-#[derive(Drop)]
+#[derive(Clone, Copy)]
 pub enum ClockModuleId {
     Pll,
     Ddr,

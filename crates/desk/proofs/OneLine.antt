@@ -8,7 +8,6 @@ use Rattle.words.specs.Words.{words}
 use Rattle.desk_requests.proofs.Settled.{one_answer}
 use Rattle.desk.specs.Line.{trimmed, RequestLine, Kind, passed, too_long, request, kind_of, TextOf, Line, LineAnswered}
 use Rattle.desk.specs.declared.line.Answered.{Answered}
-use Rattle.desk.specs.declared.line.Answered.TheVariants as Answered
 
 one_request : (line : List (List ℕ)) {s t : List ℕ} → RequestLine line s → RequestLine line t → s ≡ t
 one_request line (RequestLine.answer s x) (RequestLine.answer t y) = ap (λ (text : List ℕ). text ++ (10 ∷ [])) (one_answer line s t x y)

@@ -5,13 +5,11 @@ use mathlib.Core.List.{List, [], ◌∷◌, ◌++◌, append_assoc, append-nil}
 use Prim.Native.Nat.{ℕ, ◌+◌, ◌-◌, ◌≤◌, ◌<◌}
 use native.Mathlib.Omega.{arith}
 use lib.ListN.{length}
-use Rattle.text.specs.Put.{Wrote}
 use Rattle.text.proofs.Writing.{as_long, nothing, then}
 use Rattle.words.specs.Words.{Until, part}
 use Rattle.forms.specs.Says.{ROOM}
 use Rattle.desk.specs.Line.{Line, Writes, LineAnswered}
 use Rattle.desk.specs.declared.line.Answered.{Answered}
-use Rattle.desk.specs.declared.line.Answered.TheVariants as Answered
 use Rattle.desk.specs.Block.{Through, Block, LinesOf}
 use Rattle.desk.specs.Session.{NoNewline, Session}
 use Rattle.desk.specs.declared.block.Step.{Step}

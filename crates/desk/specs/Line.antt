@@ -7,7 +7,6 @@ use Rattle.words.specs.Words.{words}
 use Rattle.forms.specs.Says.{ROOM}
 use Rattle.desk_requests.specs.Answer.{Answer}
 use Rattle.desk.specs.declared.line.Answered.{Answered}
-use Rattle.desk.specs.declared.line.Answered.TheVariants as Answered
 
 -- a line without a carriage return at its end
 abbrev pub trimmed : List ℕ → List ℕ

@@ -1,7 +1,7 @@
 -- From the call at a place to what the dispatcher hands back. Assumes nothing.
 use Prim.Native.Nat.{ℕ, zero, suc, ◌-◌, ◌≤◌, zero-le}
 use mathlib.Core.Path.{◌≡◌, refl, sym, ◌∙◌, subst⁻¹}
-use mathlib.Core.List.{List, [], ◌∷◌, ◌++◌}
+use mathlib.Core.List.{List, [], ◌∷◌}
 use native.Mathlib.Omega.{arith}
 use lib.ListN.{length, take, drop, length-take, length-drop, get_or-eq_default}
 use lib.Seq.{take_all}

@@ -2,13 +2,11 @@
 use Prim.Native.Nat.{ℕ}
 use mathlib.Core.Path.{◌≡◌, refl, sym}
 use mathlib.Core.Bool.{Bool}
-use mathlib.Core.List.{List, [], ◌∷◌, ◌++◌}
-use native.Mathlib.Omega.{arith}
-use lib.ListN.{length, drop}
-use Rattle.refusals.specs.Told.{Told, answered, refused, InWords}
+use mathlib.Core.List.{List}
+use Rattle.refusals.specs.Told.{InWords}
 use Rattle.handing.specs.Handed.{Given}
 use Rattle.handing.proofs.Handing.{given_by, not_zero}
-use Rattle.c_clocks.specs.Tells.{ClocksTells, clock_words}
+use Rattle.c_clocks.specs.Tells.{ClocksTells}
 use Rattle.c_gem.specs.Tells.{GemTells}
 use Rattle.desk_calls.specs.Calls.{GemOfImage, not_evaluated, of_record}
 

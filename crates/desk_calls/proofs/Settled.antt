@@ -1,9 +1,8 @@
 -- Each call tells one thing of the numbers of a line. Assumes nothing.
-use Prim.Native.Nat.{ℕ, ◌<◌, ◌^◌}
+use Prim.Native.Nat.{ℕ}
 use mathlib.Core.Path.{◌≡◌, refl, sym, subst, ◌∙◌}
 use mathlib.Core.Bool.{Bool}
 use mathlib.Core.List.{List}
-use Rattle.refusals.specs.Told.{Told, answered, refused}
 use Rattle.handing.specs.Handed.{Answers, answers}
 use Rattle.handing.proofs.Unique.{Single}
 use Rattle.clocks.specs.declared.Clocks.{Clocks}

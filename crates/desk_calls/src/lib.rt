@@ -1,4 +1,6 @@
 // The calls that the desk can be asked for, by their places in its table: numbers in one row, and what the call tells into another.
+#![tactic(auto)]
+
 ghost use Rattle.std.specs.Prelude.{◌≡◌, ◌++◌, ◌+◌, ◌≤◌, length, drop};
 ghost use Rattle.registers.specs.Words.{word as word_of, GEM_0_CLK_CTRL};
 ghost use Rattle.handing.specs.Handed.{Handed, Given};

@@ -1,7 +1,7 @@
 -- The words of the code's line are the specification's, and each is short.
 use Prim.Native.Nat.{ℕ, ◌+◌, ◌≤◌}
-use mathlib.Core.Path.{◌≡◌, refl, ap, subst⁻¹, ◌∙◌}
-use mathlib.Core.List.{List, [], ◌∷◌, ◌++◌}
+use mathlib.Core.Path.{◌≡◌, refl, ap, ◌∙◌}
+use mathlib.Core.List.{List, [], ◌∷◌}
 use native.Mathlib.Omega.{arith}
 use lib.Dec.{lit≤}
 use lib.ListN.{length, get_or}
@@ -12,7 +12,6 @@ use Rattle.forms.specs.Form.{printed, most}
 use Rattle.forms.specs.Says.{Said}
 use Rattle.forms.proofs.Saying.{within, both, room_after}
 use Rattle.shapes.specs.declared.fields.Fault.{Fault}
-use Rattle.shapes.specs.declared.fields.Fault.TheVariants as Fault
 use Rattle.desk_faults.specs.Complaint.{wrong, complaint, place}
 
 abbrev LINE : List ℕ

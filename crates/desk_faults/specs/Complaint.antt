@@ -4,7 +4,6 @@ use Prim.Native.String.{String}
 use Rattle.text.specs.Bytes.{bytes}
 use Rattle.forms.specs.Form.{printed}
 use Rattle.shapes.specs.declared.fields.Fault.{Fault}
-use Rattle.shapes.specs.declared.fields.Fault.TheVariants as Fault
 
 -- a form, in which `_` is a space
 abbrev pub wrong : Fault → String

@@ -1,4 +1,4 @@
--- `pll_seq`: what the numbers of its line are, and what is printed of them.
+-- `pll-seq`: what the numbers of its line are, and what is printed of them.
 use Rattle.std.specs.Prelude.{ℕ, ◌%◌, not, List, [], ◌∷◌, ◌++◌, eqb, get_or, take, drop}
 use Rattle.refusals.specs.Told.{Told, answered, refused}
 use Rattle.text.specs.Bytes.{bytes}

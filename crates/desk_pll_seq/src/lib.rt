@@ -1,4 +1,6 @@
-// `pll_seq`: a run of the PLL sequence in print, its accesses and its end.
+// `pll-seq`: a run of the PLL sequence in print, its accesses and its end.
+#![tactic(auto)]
+
 mod request;
 
 ghost use Rattle.std.specs.Prelude.{◌++◌, ◌+◌, ◌*◌, ◌≤◌, length};

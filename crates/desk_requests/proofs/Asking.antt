@@ -1,20 +1,17 @@
 -- From what the code's functions leave to what the table says of a line.
 use Prim.Native.Nat.{ℕ, suc, ◌+◌, ◌-◌, ◌≤◌}
 use mathlib.Core.Path.{◌≡◌, refl, sym, ap, ◌∙◌, subst, subst⁻¹}
-use mathlib.Core.List.{List, [], ◌∷◌}
+use mathlib.Core.List.{List, []}
 use native.Mathlib.Omega.{arith}
 use lib.Dec.{lit≤}
 use lib.ListN.{length, get_or, take, drop, replicate, length-append}
-use Rattle.text.specs.Bytes.{bytes}
 use Rattle.text.specs.Put.{InRoom, Put}
 use Rattle.words.specs.Words.{words, words_from}
 use Rattle.shapes.specs.Shape.{MOST, Reads, parse}
 use Rattle.shapes.specs.Named.{named_of}
 use Rattle.shapes.specs.declared.fields.Fault.{Fault}
 use Rattle.shapes.specs.declared.Read.{Read}
-use Rattle.shapes.specs.declared.Read.TheVariants as Read
 use Rattle.shapes.specs.declared.Named.{Named}
-use Rattle.shapes.specs.declared.Named.TheVariants as Named
 use Rattle.shapes.proofs.Laws.{read_all, read_bad}
 use Rattle.shapes.proofs.Naming.{known_name}
 use Rattle.forms.specs.Told.{told_text, told_most}

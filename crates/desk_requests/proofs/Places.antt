@@ -1,13 +1,13 @@
 -- The table by its places: the shape of each row, and what the row of a call says.
-use Prim.Native.Nat.{ℕ, zero, suc, ◌+◌, ◌≤◌}
-use mathlib.Core.Path.{◌≡◌, sym, ap, subst, subst⁻¹}
+use Prim.Native.Nat.{ℕ, zero, suc, ◌≤◌}
+use mathlib.Core.Path.{◌≡◌, subst, subst⁻¹}
 use mathlib.Core.Bool.{Bool, true, ◌&&◌}
 use mathlib.Core.List.{List, [], ◌∷◌}
 use lib.Dec.{T, leb, leb→le, lit≤}
 use lib.ListN.{get_or, get_or-map}
 use Rattle.text.specs.Bytes.{bytes}
 use Rattle.forms.specs.Told.{told_most}
-use Rattle.desk_calls.specs.Calls.{Call, calls, call_at, nothing}
+use Rattle.desk_calls.specs.Calls.{Call, call_at}
 use Rattle.desk_requests.specs.Row.{Request, CallRow, Spoken, request}
 use Rattle.desk_requests.proofs.Speaking.{both}
 use Rattle.desk_requests.specs.Table.{row, requests, called, no_call, shapes, forms}

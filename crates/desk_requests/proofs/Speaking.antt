@@ -1,16 +1,16 @@
 -- What a call hands back, printed, is what the table's row says of it.
-use Prim.Native.Nat.{ℕ, zero, suc, ◌+◌, ◌*◌, ◌/◌, ◌%◌, ◌≤◌, ◌<◌}
-use mathlib.Core.Path.{◌≡◌, refl, sym, ap, ◌∙◌, subst, subst⁻¹}
-use mathlib.Core.Bool.{Bool, true, false, not, ◌&&◌, ◌||◌, cond}
+use Prim.Native.Nat.{ℕ, zero, suc, ◌+◌, ◌/◌, ◌%◌, ◌≤◌, ◌<◌}
+use mathlib.Core.Path.{◌≡◌, refl, sym, ◌∙◌, subst⁻¹}
+use mathlib.Core.Bool.{Bool, true, false, not, ◌&&◌, ◌||◌}
 use mathlib.Core.Logic.{◌⊎◌, inl, inr, ⊎_elim}
 use mathlib.Core.List.{List, [], ◌∷◌, ◌++◌}
 use native.Mathlib.Omega.{arith}
 use lib.Dec.{T, eqb, ltb, leb, ltb→lt, leb→le, eqb→eq}
 use lib.ListN.{length, get_or, drop, replicate}
 use lib.Seq.{get_or-drop}
-use borrow.Author.Tests.{eq-eqb, ne_eqb}
+use borrow.Author.Tests.{ne_eqb}
 use Rattle.refusals.specs.Told.{Told}
-use Rattle.refusals.specs.Carried.{carries, carries_nothing, Carried}
+use Rattle.refusals.specs.Carried.{carries, Carried}
 use Rattle.handing.specs.Handed.{Given, code}
 use Rattle.forms.specs.Form.{printed, kind_of, takes}
 use Rattle.forms.specs.Told.{refusal_text, told_text}
@@ -44,12 +44,15 @@ either false b t = inr t
 
 pub both : (a b : Bool) → T (a && b) → T a × T b
 both true b t = (tt, t)
+both false b t = elim t [ ]
 
 is_true : (b : Bool) → T b → b ≡ true
 is_true true t = refl
+is_true false t = elim t [ ]
 
 is_false : (b : Bool) → T (not b) → b ≡ false
 is_false false t = refl
+is_false true t = elim t [ ]
 
 carrier : (n : ℕ) → T (carries n) → (0 < n) × (n ≤ 20)
 carrier n t =
@@ -72,6 +75,7 @@ refused_text form row n r (x ∷ []) c e =
     let number : r % 4294967296 ≡ n = omega arith in
     let above : r / 4294967296 ≡ x = omega arith in
     rw (number, above) (simp (ne_eqb n 0 (λ (z : n ≡ 0). omega arith), is_true (carries n) c))
+refused_text form row n r (x ∷ (_ ∷ _)) c e = elim c [ ]
 
 answer_text : (form words zeros : List ℕ) → ((i : ℕ) → get_or zeros i 0 ≡ 0) → told_text form 0 (words ++ zeros) ≡ printed form words
 unfolding told_text

@@ -1,5 +1,5 @@
 -- The answer to a line, as the table has it.
-use Rattle.std.specs.Prelude.{ℕ, ◌≡◌, List, [], ◌∷◌, drop}
+use Rattle.std.specs.Prelude.{ℕ, ◌≡◌, List, drop}
 use Rattle.text.specs.Bytes.{bytes}
 use Rattle.shapes.specs.Shape.{MOST, Parsed, all, bad, parse}
 use Rattle.shapes.specs.Named.{named_of}

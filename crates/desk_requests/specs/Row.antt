@@ -1,5 +1,5 @@
 -- A request is a row of the desk's table: its name, the shape of its words, what it says, its line of help.
-use Rattle.std.specs.Prelude.{ℕ, List, [], ◌∷◌, ◌++◌}
+use Rattle.std.specs.Prelude.{ℕ, List, [], ◌∷◌}
 use Prim.Native.String.{String}
 use Rattle.refusals.specs.Told.{Told, answered, refused}
 use Rattle.text.specs.Bytes.{bytes}

@@ -1,7 +1,6 @@
 -- The desk's table: everything that can be asked. Shapes are those of crate shapes (n a number, b one of 8 bits, h of 16, f 0 or 1, s a speed,
 -- p a PLL, w register words to the line's end), forms those of crate forms (# a number, $ eight hex digits, ? none or a number, ~ a clock or emio).
 use Rattle.std.specs.Prelude.{ℕ, ◌≡◌, List, [], ◌∷◌, ◌++◌, map, get_or}
-use Prim.Native.String.{String}
 use Rattle.text.specs.Bytes.{bytes}
 use Rattle.desk_calls.specs.Calls.{nth, nothing, two_stage, two_stage_frequency, i2c, i2c_speed, ttc, pll_target, pll_mul, uart, cpu_init, ddr_init, clocks, gem, ratios}
 use Rattle.desk_uart_list.specs.List.{Listed}

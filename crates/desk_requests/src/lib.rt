@@ -1,5 +1,7 @@
 // One request, answered. The table of requests stands in specs/Table.antt, and the code follows it by place: a name's place is found, the
 // words are read by the shape at that place, and what is told of their numbers is printed by the form there.
+#![tactic(auto)]
+
 ghost use Rattle.std.specs.Prelude.{◌+◌, ◌≤◌, length};
 ghost use Rattle.words.specs.Words.{words, words_from};
 ghost use Rattle.text.specs.Put.{InRoom};

@@ -1,4 +1,4 @@
--- What `uart_list` prints: how many viable pairs there are, and each in rising bdiv as CD:BDIV:ERROR after a space, the error as the
+-- What `uart-list` prints: how many viable pairs there are, and each in rising bdiv as CD:BDIV:ERROR after a space, the error as the
 -- eight hex digits of its bits.
 use Rattle.std.specs.Prelude.{ℕ, List, [], ◌∷◌, ◌++◌, length}
 use Rattle.text.specs.Bytes.{bytes}

@@ -1,5 +1,7 @@
-// `uart_list`: the viable pairs of a UART's divisors in print. The count comes first, so the baud dividers are gone through twice: no
+// `uart-list`: the viable pairs of a UART's divisors in print. The count comes first, so the baud dividers are gone through twice: no
 // record is kept between.
+#![tactic(auto)]
+
 ghost use Rattle.std.specs.Prelude.{◌+◌, ◌≤◌, length};
 ghost use Rattle.text.specs.Put.{InRoom};
 ghost use Rattle.forms.specs.Says.{ROOM, Said, Says};

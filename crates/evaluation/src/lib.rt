@@ -1,4 +1,6 @@
 // Every clock of a crystal and a register image: document 01, "Evaluation".
+#![tactic(auto)]
+
 pub mod cpu;
 pub mod io;
 
@@ -22,14 +24,14 @@ use registers::{
 };
 use sources::{PllOutputs, divided, pll_output};
 
-#[derive(Drop)]
+#[derive(Clone, Copy)]
 pub enum ClockReadError {
     BadImage,
     DivisorZero(ClockModuleId),
     Overflow(ClockModuleId),
 }
 
-#[derive(Drop)]
+#[derive(Clone, Copy)]
 pub enum Evaluated {
     Clocks(Clocks),
     Refused(ClockReadError),

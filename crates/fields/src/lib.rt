@@ -1,11 +1,13 @@
 // Reading a field of a 32-bit word and setting one, over any position and width: document 01, "The image and its fields".
 // The crates that know a register name its fields; no field is read by a formula of its own.
+#![tactic(auto)]
+
 ghost use Rattle.std.specs.Prelude.{◌≡◌};
 ghost use Rattle.fields.specs.Word.{read_field, set_field, inside};
 
 // The `width` bits of a word from bit `lo` upwards. What runs past bit 31 is no part of the word: it reads as zeros, and setting it
 // changes nothing.
-#[derive(Drop)]
+#[derive(Clone, Copy)]
 pub struct Field {
     pub lo: u32,
     pub width: u32,

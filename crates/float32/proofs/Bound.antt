@@ -27,6 +27,9 @@ units_plain f q k (fin false n d) p = go (ltb (q * 2 ^ k) (2 ^ (low f + suc (ema
     go : (b : Bool) → T (le (cond b (odd (suc (prec f)) false q k (low f)) (inf false)) (fin false n d)) → T (plain (cond b (odd (suc (prec f)) false q k (low f)) (inf false)))
     go true t = odd_plain (suc (prec f)) q k (low f)
     go false t = t
+units_plain f q k nan p = elim p [ ]
+units_plain f q k (inf _) p = elim p [ ]
+units_plain f q k (fin true n d) p = elim p [ ]
 
 round_plain : (f : Format) (a c : ℕ) (y : Float) → T (plain y) → T (le (round f false a c) y) → T (plain (round f false a c))
 round_plain f a c y p t = rw (round_is f false a c) (units_plain f _ _ y p (rw (round_is f false a c) at t))
@@ -34,6 +37,8 @@ round_plain f a c y p t = rw (round_is f false a c) (units_plain f _ _ y p (rw (
 value_plain : (x : Float) (a c : ℕ) → HasValue x false a c → T (plain x)
 value_plain (fin true m e) a c h = true≢false h.0
 value_plain (fin false m e) a c h = tt
+value_plain nan a c h = elim h [ ]
+value_plain (inf _) a c h = elim h [ ]
 
 -- b is an f32 itself
 abbrev pub Holds : ℕ → Type 0
@@ -82,6 +87,9 @@ pub record FromOne (x : Float) : Type 0 where
 
 from_one : (x : Float) → T (plain x) → den x ≤ num x → FromOne x
 from_one (fin false m e) p h = record { above_zero = lt→ltb 0 m (first_pos m (up e) (lt_of_lt_of_le (down_pos e) h)); reaches = h }
+from_one nan p h = elim p [ ]
+from_one (inf _) p h = elim p [ ]
+from_one (fin true m e) p h = elim p [ ]
 
 pub not_zero : (n : ℕ) → 0 < n → n ≤ LIMIT → FromOne (of_whole n)
 unfolding of_int

@@ -38,6 +38,9 @@ between (fin false m e) l u =
 pub no_nan : (x : Float) → Between x → T (not (is_nan x))
 unfolding is_nan
 no_nan (fin false m e) h = tt
+no_nan nan h = elim h [ ]
+no_nan (inf _) h = elim h [ ]
+no_nan (fin true m e) h = elim h [ ]
 
 -- ---- the bit pattern
 -- the whole halves of the f32 whose pattern is b, as the code has them
@@ -127,6 +130,9 @@ rounds (fin false m e) h =
       few = rw r.cut (few (m * up e) (down e) (down_pos e) h.0 h.1);
       is = rw r.cut (half_up (m * up e) (down e) (down_pos e) h.0 h.1 ∙ under_cap _ 65536 l);
     }
+rounds nan h = elim h [ ]
+rounds (inf _) h = elim h [ ]
+rounds (fin true m e) h = elim h [ ]
 
 -- ---- outside
 pub beyond : (x : Float) → le half x ≡ true → lt x last ≡ false → 65536 ≡ to_whole x

@@ -1,9 +1,9 @@
 -- How near a rounded fraction is, over exact values: within one part in 2 ^ 24 wherever the fraction is at least 2 ^ -126, the smallest f32 with all its digits.
-use Rattle.std.proofs.Common.{◌≡◌, ℕ, suc, ◌+◌, ◌-◌, ◌*◌, ◌/◌, ◌%◌, ◌^◌, ◌<◌, ◌≤◌, false, not, T, eqb, sym, ap, ◌∙◌, subst, ⊎_elim, le_trans, le_of_eq, mul-le-mul_right, mod-lt, mul_assoc, suc-mul, mul_comm, add-mul, eq-zero-or-pos, mul-le-mul_left, mul-pos, div-add-mod', le-div_iff_mul-le, mul-add, mul_right_comm, le-mul_of_pos_right, le_of_mul-le-mul_right, mul_left_comm, arith, lit<, eqb→eq, leb→le, pow_pos, pow-add}
+use Rattle.std.proofs.Common.{◌≡◌, ℕ, suc, ◌+◌, ◌-◌, ◌*◌, ◌/◌, ◌%◌, ◌^◌, ◌<◌, ◌≤◌, true, false, not, T, eqb, sym, ap, ◌∙◌, subst, ⊎_elim, le_trans, le_of_eq, mul-le-mul_right, mod-lt, mul_assoc, suc-mul, mul_comm, add-mul, eq-zero-or-pos, mul-le-mul_left, mul-pos, div-add-mod', le-div_iff_mul-le, mul-add, mul_right_comm, le-mul_of_pos_right, le_of_mul-le-mul_right, mul_left_comm, arith, lit<, eqb→eq, leb→le, pow_pos, pow-add}
 use Prim.Native.Nat.{compare, Ordering}
 use lib.Dec.{nleb→lt, eqb_refl, is_le, compare_is_eq}
 use lib.Arith.{lt_of_le-ne}
-use lib.Ieee.{Float, fin, binary32, size, nearest, round, of_int}
+use lib.Ieee.{Float, fin, binary32, size, nearest, round, of_int, nan, inf}
 use lib.Ieee.Digits.{size_reaches}
 use lib.Ieee.Nearest.{closest}
 use lib.Ieee.Order.{drop, kept}
@@ -78,7 +78,7 @@ pub record Near (a c : ℕ) (x : Float) : Type 0 where
 -- from units of 1 / L to the fraction N / d that x is
 in_units : (N L g d c P a : ℕ) → 0 < L → N * L ≡ g * d → g * c * P ≤ a * L * P + a * L → a * L * P ≤ g * c * P + a * L → (N * c * P ≤ a * d * P + a * d) × (a * d * P ≤ N * c * P + a * d)
 in_units N L g d c P a l v under over =
-    let e : N * c * P * L ≡ g * c * P * d = simp (mul_assoc, mul_comm, mul_left_comm) (simp (mul_assoc, mul_comm, mul_left_comm) at (ap (λ (z : ℕ). z * (c * P)) v)) in
+    let e : N * c * P * L ≡ g * c * P * d = simp (mul_assoc, mul_comm, mul_left_comm) (simp mul_assoc at (ap (λ (z : ℕ). z * (c * P)) v)) in
     let f : a * L * P * d ≡ a * d * P * L = simp (mul_assoc, mul_comm, mul_left_comm) in
     let h : a * L * d ≡ a * d * L = mul_right_comm a L d in
     let u = mul-le-mul_right d under in
@@ -91,6 +91,9 @@ in_units N L g d c P a l v under over =
 
 plain_finite : (x : Float) → T (plain x) → T (finite x)
 plain_finite (fin false m e) p = tt
+plain_finite nan p = elim p [ ]
+plain_finite (inf _) p = elim p [ ]
+plain_finite (fin true m e) p = elim p [ ]
 
 pub near : (a c : ℕ) → 0 < c → c ≤ a * 2 ^ 126 → T (plain (round binary32 false a c)) → Near a c (round binary32 false a c)
 near a c C h p =

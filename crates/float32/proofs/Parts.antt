@@ -16,6 +16,9 @@ plain (fin false m e) = true
 
 pub positive_plain : (x : Float) → T (positive x) → T (plain x)
 positive_plain (fin false m e) p = tt
+positive_plain nan p = elim p [ ]
+positive_plain (inf _) p = elim p [ ]
+positive_plain (fin true m e) p = elim p [ ]
 
 -- how far a and b are apart
 abbrev pub apart : ℕ → ℕ → ℕ
@@ -33,10 +36,22 @@ not_zero n h e = omega arith
 pub product : (f : Format) (x y : Float) → T (plain x) → T (plain y) → mul f x y ≡ round f false (num x * num y) (den x * den y)
 unfolding mul
 product f (fin false m e) (fin false n d) p q = refl
+product f nan y p q = elim p [ ]
+product f (inf _) y p q = elim p [ ]
+product f (fin false m e) nan p q = elim q [ ]
+product f (fin false m e) (inf _) p q = elim q [ ]
+product f (fin false m e) (fin true n d) p q = elim q [ ]
+product f (fin true m e) y p q = elim p [ ]
 
 pub quotient : (f : Format) (x y : Float) → T (plain x) → T (positive y) → div f x y ≡ round f false (num x * den y) (num y * den x)
 unfolding div
 quotient f (fin false m e) (fin false n d) p q = cond_no (eqb n 0) _ (round f false (m * up e * down d) (n * up d * down e)) (not_T (eqb n 0) (λ (t : T (eqb n 0)). not_zero n (ltb→lt 0 n q) (eqb→eq n 0 t)))
+quotient f nan y p q = elim p [ ]
+quotient f (inf _) y p q = elim p [ ]
+quotient f (fin false m e) nan p q = elim q [ ]
+quotient f (fin false m e) (inf _) p q = elim q [ ]
+quotient f (fin false m e) (fin true n d) p q = elim q [ ]
+quotient f (fin true m e) y p q = elim p [ ]
 
 -- ---- the absolute value of what was rounded
 abs_odd : (d : ℕ) (s : Bool) (q k l : ℕ) → abs (odd d s q k l) ≡ odd d false q k l
@@ -71,3 +86,9 @@ distance f (fin false m e) (fin false n d) p q = go (ltb a b) (ltb→lt a b) (nl
     go : (t : Bool) → (T t → a < b) → (T (not t) → b ≤ a) → abs (cond t (round f true (b - a) c) (round f (false && ltb b a) (a - b) c)) ≡ round f false (apart a b) c
     go true l g = abs_round f true (b - a) c ∙ ap (λ (z : ℕ). round f false z c) (let h = l tt in below a b h)
     go false l g = abs_round f false (a - b) c ∙ ap (λ (z : ℕ). round f false z c) (above a b (g tt))
+distance f nan y p q = elim p [ ]
+distance f (inf _) y p q = elim p [ ]
+distance f (fin false m e) nan p q = elim q [ ]
+distance f (fin false m e) (inf _) p q = elim q [ ]
+distance f (fin false m e) (fin true n d) p q = elim q [ ]
+distance f (fin true m e) y p q = elim p [ ]

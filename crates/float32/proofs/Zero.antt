@@ -23,3 +23,6 @@ over_zero (fin false m e) p = go (eqb m 0)
     go : (b : Bool) → (to_whole (cond b nan (inf false)) ≡ 0) ⊎ (to_whole (cond b nan (inf false)) ≡ 65536)
     go true = inl refl
     go false = inr refl
+over_zero nan p = elim p [ ]
+over_zero (inf _) p = elim p [ ]
+over_zero (fin true m e) p = elim p [ ]

@@ -1,4 +1,6 @@
 // Between whole numbers and f32, and the absolute value: what `as`, `libm::roundf` and `abs` do in the Rust.
+#![tactic(auto)]
+
 mod pattern;
 
 ghost use Rattle.std.specs.Prelude.{◌≡◌};

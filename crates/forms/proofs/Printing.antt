@@ -1,12 +1,12 @@
 -- How long what a form prints is at most, and what stands in the buffer while it is gone through.
 use mathlib.Core.Path.{◌≡◌, refl, sym, ap, ◌∙◌, subst, subst⁻¹}
-use mathlib.Core.Bool.{Bool, true, false, not, cond}
+use mathlib.Core.Bool.{Bool, true, false, cond}
 use mathlib.Core.List.{List, [], ◌∷◌, ◌++◌, append_assoc, append-nil}
 use Prim.Native.Nat.{ℕ, ◌+◌, ◌-◌, ◌≤◌, ◌<◌}
 use native.Mathlib.Nat.{add-zero}
 use native.Mathlib.Numerals.{add-one}
 use native.Mathlib.Omega.{arith}
-use borrow.Author.Tests.{leb-true, leb-false, not-true, not-false}
+use borrow.Author.Tests.{leb-true, leb-false}
 use lib.Dec.{lit≤, eqb, leb}
 use lib.ListN.{length, get_or, drop, length-append, drop_of_length-le}
 use lib.Seq.{drop-cons, drop-drop, get_or-drop}
@@ -70,11 +70,11 @@ takes_less Itself = omega arith
 
 -- whether there is room for it, as the code tests it
 module _ {r : Bool} {a b : ℕ} (is : r ≡ leb a b) where
-  pub too_long : not r ≡ true → b < a
-  too_long e = leb-false a b (sym is ∙ not-true r e)
+  pub too_long : r ≡ false → b < a
+  too_long e = leb-false a b (sym is ∙ e)
 
-  pub fitting : not r ≡ false → a ≤ b
-  fitting e = leb-true a b (sym is ∙ not-false r e)
+  pub fitting : r ≡ true → a ≤ b
+  fitting e = leb-true a b (sym is ∙ e)
 
 pub record Printing (form words before : List ℕ) (at : ℕ) (out : List ℕ) (to next i : ℕ) : Type 0 where
   pub room : at + most form ≤ length before

@@ -3,7 +3,7 @@ use mathlib.Core.List.{List, [], ◌++◌}
 use Prim.Native.Nat.{ℕ, ◌+◌, ◌≤◌}
 use native.Mathlib.Omega.{arith}
 use lib.ListN.{length}
-use Rattle.text.specs.Put.{Wrote, Put}
+use Rattle.text.specs.Put.{Put}
 use Rattle.text.proofs.Writing.{as_long, nothing, then}
 use Rattle.forms.specs.Says.{Said, Says}
 

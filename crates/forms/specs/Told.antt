@@ -1,6 +1,6 @@
 -- What a call hands back, as text: 0 in the lower 32 bits is an answer, whose words are printed by a form. Else they are the refusal's
 -- number, and the upper 32 bits are what it carries.
-use Rattle.std.specs.Prelude.{ℕ, ◌+◌, ◌/◌, ◌%◌, max, cond, List, [], ◌∷◌, eqb}
+use Rattle.std.specs.Prelude.{ℕ, ◌/◌, ◌%◌, max, cond, List, [], ◌∷◌, eqb}
 use Rattle.refusals.specs.Carried.{carries}
 use Rattle.text.specs.Bytes.{bytes}
 use Rattle.forms.specs.Form.{printed, most}

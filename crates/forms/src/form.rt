@@ -6,7 +6,7 @@ ghost use Rattle.forms.specs.Says.{Said};
 use text::{put_byte, put_bytes, put_decimal, put_hex};
 
 // What a byte of a form stands for.
-#[derive(Drop)]
+#[derive(Clone, Copy)]
 pub enum Kind {
     Number,
     Hex,

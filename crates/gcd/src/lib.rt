@@ -1,4 +1,6 @@
 // The greatest common divisor of two numbers, by Euclid's rule.
+#![tactic(auto)]
+
 ghost use Rattle.gcd.specs.Common.{Greatest};
 
 // That of b and of what is left of a after dividing by b has the same divisors, and its second number is smaller. With 0 it is the other

@@ -1,4 +1,6 @@
 // The reference clocks of the two Ethernet controllers, from an evaluated record and a controller's word: document 01, "Evaluation".
+#![tactic(auto)]
+
 ghost use Rattle.std.specs.Prelude.{◌≡◌};
 ghost use Rattle.gem.specs.Gem.{Right, told, outputs_in};
 ghost use Rattle.clocks.specs.declared.module_id.ClockModuleId.TheVariants.{Gem0, Gem1};
@@ -9,7 +11,7 @@ use fields::read_field;
 use registers::{DIVISOR, DIVISOR_1};
 use sources::{PllOutputs, dual_clock};
 
-#[derive(Drop)]
+#[derive(Clone, Copy)]
 pub enum GemRead {
     Hertz(u32),
     DivisorZero(ClockModuleId),

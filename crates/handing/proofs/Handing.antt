@@ -54,3 +54,4 @@ no_carrier e t = subst (λ (k : ℕ). T (carries k)) e t
 pub not_zero : (n : ℕ) (carried : List ℕ) → Carried n carried → code n carried ≡ 0 → ⊥
 not_zero n [] c e = no_number {n = n} (omega arith) c
 not_zero n (x ∷ []) c e = no_carrier {n = n} (omega arith) c
+not_zero n (x ∷ (_ ∷ _)) c e = elim c [ ]

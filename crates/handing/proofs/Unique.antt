@@ -1,7 +1,7 @@
 -- One law for every call: where its promise has one answer, one number and one row can be handed back. Assumes nothing.
-use Prim.Native.Nat.{ℕ, ◌≤◌, ◌<◌}
+use Prim.Native.Nat.{ℕ}
 use mathlib.Core.Path.{◌≡◌, sym, ap, ◌∙◌}
-use mathlib.Core.List.{List, [], ◌∷◌, ◌++◌}
+use mathlib.Core.List.{List, ◌++◌}
 use lib.ListN.{length, drop}
 use Rattle.bounds.proofs.Bound.{both}
 use Rattle.refusals.specs.Told.{Told, answered, refused, InWords}

@@ -1,4 +1,6 @@
 // A lent row of words: refusing one that is too short, and putting an answer's words at its front.
+#![tactic(auto)]
+
 ghost use Rattle.std.specs.Prelude.{◌≡◌, [], ◌∷◌, ◌++◌, ◌≤◌, ◌<◌, ◌%◌, ◌^◌, length, drop};
 ghost use Rattle.refusals.specs.Number.{NO_ROOM};
 ghost use Rattle.bounds.specs.Within.{Within};

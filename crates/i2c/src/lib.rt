@@ -1,10 +1,12 @@
 // The I2C clock divisors for a wanted bus speed, and the speed that given divisors make.
+#![tactic(auto)]
+
 ghost use Rattle.std.specs.Prelude.{◌≡◌, ◌+◌, ◌*◌, ◌/◌, ◌≤◌};
 ghost use Rattle.i2c.specs.Row.{InRow};
 ghost use Rattle.i2c.specs.Divisors.{nominal, calculation, clock, Right, told};
 
 // I2C bus speed.
-#[derive(Drop)]
+#[derive(Clone, Copy)]
 pub enum Speed {
     Normal100kHz,
     HighSpeed400KHz,
@@ -33,13 +35,13 @@ impl Speed {
 }
 
 // The raw register values, each one less than its divisor.
-#[derive(Drop)]
+#[derive(Clone, Copy)]
 pub struct ClockConfig {
     pub div_a: u8,
     pub div_b: u8,
 }
 
-#[derive(Drop)]
+#[derive(Clone, Copy)]
 pub enum Divisors {
     Found(ClockConfig),
     SpeedNotAttainable,
@@ -53,7 +55,7 @@ pub fn calculate_i2c_speed(cpu_1x_clk: u32, clk_config: ClockConfig) -> u32
 }
 
 // A second divisor, and how far its frequency is from the target.
-#[derive(Drop)]
+#[derive(Clone, Copy)]
 struct Candidate {
     divisor: u32,
     deviation: u32,

@@ -1,10 +1,12 @@
 // The IO peripherals' clocks, and their updates after a peripheral's clock was set anew.
+#![tactic(auto)]
+
 ghost use Rattle.std.specs.Prelude.{◌≡◌};
 ghost use Rattle.io_clocks.specs.Update.{Updated, SMC, QSPI, SDIO, UART, SPI, CAN, PCAP_2X};
 
 use sources::TraceClk;
 
-#[derive(Drop)]
+#[derive(Clone, Copy)]
 pub struct IoClocks {
     pub ref_clk: u32,
     pub smc_clk: u32,

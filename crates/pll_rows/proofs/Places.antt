@@ -7,7 +7,7 @@ use lib.ListN.{drop, drop_of_length-le}
 use Rattle.pll_rows.specs.declared.Due.{Due}
 use Rattle.pll_rows.specs.declared.PllPlan.{PllPlan}
 use Rattle.pll_rows.specs.Due.{IsDue}
-use Rattle.pll_rows.specs.Sequence.{Row, sequence}
+use Rattle.pll_rows.specs.Sequence.{sequence}
 
 -- k is no number below n, told one by one: what `_` tells after arms 0 to n - 1
 abbrev NoneBelow : ℕ → ℕ → Type 0

@@ -1,7 +1,7 @@
 -- The whole list of accesses: how long it is at most, and that refusal 11 is its end exactly when the polls say so.
 -- Assumes nothing.
 use Prim.Native.Nat.{ℕ, zero, suc, ◌+◌, ◌≤◌, zero-le}
-use mathlib.Core.Path.{◌≡◌, refl, sym, ap, subst, ◌∙◌}
+use mathlib.Core.Path.{◌≡◌, refl}
 use mathlib.Core.Logic.{◌↔◌}
 use mathlib.Core.Bool.{Bool, true, false, cond}
 use mathlib.Core.List.{List, [], ◌∷◌}
@@ -11,7 +11,7 @@ use lib.ListN.{length, drop}
 use Rattle.fields.specs.declared.Field.{Field}
 use Rattle.registers.specs.Plls.{pll_lock}
 use Rattle.pll_rows.specs.declared.PllPlan.{PllPlan}
-use Rattle.pll_rows.specs.Sequence.{Row, read, write, poll, Log, Ending, locked, timed_out, starved, seen, reads, polls, log, sequence, accesses_of}
+use Rattle.pll_rows.specs.Sequence.{Row, read, write, poll, Log, locked, timed_out, starved, seen, reads, polls, log, sequence, accesses_of}
 
 -- ---- at most 11 accesses and the polls
 

@@ -1,4 +1,6 @@
 // The rows of the PLL sequence: which word of the image each reads or writes, and what it writes.
+#![tactic(auto)]
+
 ghost use Rattle.std.specs.Prelude.{◌≡◌, drop};
 ghost use Rattle.registers.specs.Plls.{pll_ctrl, pll_cfg, pll_lock};
 ghost use Rattle.pll_rows.specs.Due.{IsDue};
@@ -9,7 +11,7 @@ use pll_settings::PllConfig;
 use registers::PllType;
 
 // What a run of the sequence is for. Any values will do: a setting too wide for its field never reaches the other bits.
-#[derive(Drop)]
+#[derive(Clone, Copy)]
 pub struct PllPlan {
     pub pll: PllType,
     pub config: PllConfig,
@@ -17,7 +19,7 @@ pub struct PllPlan {
 }
 
 // A row that is due: read a word of the image, write a value to one, read one until the PLL is locked, or nothing more.
-#[derive(Drop)]
+#[derive(Clone, Copy)]
 pub enum Due {
     Read(u32),
     Write(u32, u32),

@@ -56,7 +56,7 @@ module _ {l : Log} {n : ℕ} {before : Rows} where
         }
 
 -- one part after the other
-pub then : {l k j : Log} {n m p : ℕ} {r q t : Rows} → Moves l n r k m q → Moves k m q j p t → Moves l n r j p t
+pub then : {l k : Log} {n m : ℕ} {r q : Rows} {j : Log} {p : ℕ} {t : Rows} → Moves l n r k m q → Moves k m q j p t → Moves l n r j p t
 then first here = first
 then first (on moves e next is) = on (then first moves) e next is
 

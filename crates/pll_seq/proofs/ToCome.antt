@@ -3,7 +3,7 @@ use Prim.Native.Nat.{ℕ, zero, suc, ◌+◌, ◌-◌, ◌≤◌, ◌<◌}
 use native.Mathlib.Numerals.{add-one, sub-one}
 use native.Mathlib.Omega.{arith}
 use mathlib.Core.Path.{◌≡◌, refl, sym, ap, ap₂, subst, ◌∙◌}
-use mathlib.Core.Logic.{⊎_elim}
+use mathlib.Core.Logic.{inl, inr, ⊎_elim}
 use mathlib.Core.Bool.{Bool, true, false, ◌&&◌}
 use mathlib.Core.List.{List, [], ◌∷◌}
 use types.Run.{OneOf}
@@ -42,6 +42,13 @@ module _ (n w : ℕ) (words : List ℕ) where
 -- a poll or the end is due
 abbrev pub Past : Due → Type 0
 Past d = OneOf (2 ∷ 3 ∷ []) (tag_of the_type d)
+
+-- so it is where the row is neither read nor written
+pub is_past : (d : Due) → ((i : ℕ) → d ≡ Read i → ⊥) → ((i v : ℕ) → d ≡ Write i v → ⊥) → Past d
+is_past (Read i) h g = absurd (h i refl)
+is_past (Write i v) h g = absurd (g i v refl)
+is_past (Poll i) h g = inl refl
+is_past End h g = inr refl
 
 -- the first n rows: there are so many, and none is a poll
 abbrev plain_row : Row → Bool

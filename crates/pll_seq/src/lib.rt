@@ -1,6 +1,8 @@
 // A whole run of the PLL sequence over the words that a host would return: the sequence without a device. Its accesses are recorded,
 // one after the other, in three lent rows, in three parts: the rows before the polls, the polls, and the rows after them. The first is a
 // loop of a fixed length, which the compiler unrolls; a loop over all rows, or over steps, is not.
+#![tactic(auto)]
+
 mod whole;
 
 ghost use Rattle.std.specs.Prelude.{◌+◌, ◌≡◌, drop};
@@ -13,34 +15,34 @@ use pll_rows::{Due, PllPlan, locked, pll_ctrl, row};
 pub use whole::run;
 
 // Locked: the bit was seen and the bypass released. TimedOut: every poll that is allowed showed the bit clear. Starved: the words ran out.
-#[derive(Drop)]
+#[derive(Clone, Copy)]
 pub enum End {
     Locked,
     TimedOut,
     Starved,
 }
 
-#[derive(Drop)]
+#[derive(Clone, Copy)]
 pub struct Ran {
     pub accesses: usize,
     pub end: End,
 }
 
 // NoRoom has how many records each of the rows must hold.
-#[derive(Drop)]
+#[derive(Clone, Copy)]
 pub enum Outcome {
     Ran(Ran),
     NoRoom(usize),
 }
 
 // How many words the host has returned, and how many accesses are recorded.
-#[derive(Drop)]
+#[derive(Clone, Copy)]
 struct Spot {
     used: usize,
     count: usize,
 }
 
-#[derive(Drop)]
+#[derive(Clone, Copy)]
 enum Went {
     On(Spot),
     Over(Ran),

@@ -1,13 +1,13 @@
 -- Two settings that are right for one input are the same. Of document 01's rows two tests are computed: no two ranges meet,
 -- unless the rows have the same numbers, and all lie in 13 to 66. Assumes nothing.
-use mathlib.Core.Path.{◌≡◌, refl, ap, sym}
+use mathlib.Core.Path.{◌≡◌, refl, ap}
 use mathlib.Core.Logic.{◌⊎◌, ⊎_elim}
 use mathlib.Core.Bool.{Bool, not, ◌&&◌, ◌||◌}
 use Prim.Native.Nat.{ℕ, ◌≤◌, ◌<◌}
 use native.Mathlib.Nat.{le_trans}
 use native.Mathlib.Omega.{arith}
 use lib.Dec.{T, leb, eqb, leb→le, le→leb, eqb→eq}
-use Rattle.refusals.specs.Told.{Told, answered, refused}
+use Rattle.refusals.specs.Told.{Told, answered}
 use Rattle.tables.specs.Table.{◌∈◌, all}
 use Rattle.tables.proofs.Table.{both, and, given, of_all}
 use Rattle.pll_settings.specs.declared.PllConfig.{PllConfig}

@@ -1,4 +1,6 @@
 // The settings of a PLL, by its multiplier or by the output clock that is wanted. The numbers are table 25-6 of the manual.
+#![tactic(auto)]
+
 ghost use Rattle.std.specs.Prelude.{◌≤◌};
 ghost use Rattle.refusals.specs.Told.{answered};
 ghost use Rattle.pll_settings.specs.Settings.{told, Right, RightTarget};
@@ -10,7 +12,7 @@ pub const PLL_MUL_MAX: u32 = 66;
 
 // What a PLL's control and configuration words are given. A caller may put any numbers in here; only the sequence that writes
 // them judges whether they fit their fields.
-#[derive(Drop)]
+#[derive(Clone, Copy)]
 pub struct PllConfig {
     pub fdiv: u8,
     pub charge_pump: u8,
@@ -18,7 +20,7 @@ pub struct PllConfig {
     pub lock_count: u16,
 }
 
-#[derive(Drop)]
+#[derive(Clone, Copy)]
 pub enum PllSetting {
     Found(PllConfig),
     ZeroInput,

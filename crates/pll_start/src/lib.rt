@@ -1,4 +1,6 @@
 // Starting the PLL sequence, once for each PLL or unchecked. The marks of what was started go in and come back by value.
+#![tactic(auto)]
+
 ghost use Rattle.std.specs.Prelude.{◌≡◌};
 ghost use Rattle.pll_start.specs.Start.{fits, marked, mark, told, told_once, start, once};
 
@@ -8,14 +10,14 @@ use pll_step::{Place, PllSequence};
 use registers::PllType;
 
 // Which PLLs have been started.
-#[derive(Drop)]
+#[derive(Clone, Copy)]
 pub struct PllMarks {
     pub arm: bool,
     pub ddr: bool,
     pub io: bool,
 }
 
-#[derive(Drop)]
+#[derive(Clone, Copy)]
 pub enum Start {
     Run(PllSequence),
     BadLimit,
@@ -23,7 +25,7 @@ pub enum Start {
     Already,
 }
 
-#[derive(Drop)]
+#[derive(Clone, Copy)]
 pub struct Started {
     pub start: Start,
     pub marks: PllMarks,

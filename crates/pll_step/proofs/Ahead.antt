@@ -2,7 +2,7 @@
 use Prim.Native.Nat.{ℕ, zero, suc, ◌+◌, ◌-◌}
 use native.Mathlib.Nat.{add-sub_cancel}
 use native.Mathlib.Numerals.{add-one, sub-one}
-use mathlib.Core.Path.{◌≡◌, refl, sym, ap, ◌∙◌}
+use mathlib.Core.Path.{◌≡◌, refl, sym, ap, ◌∙◌, subst}
 use mathlib.Core.Bool.{Bool, true, false, cond}
 use mathlib.Core.List.{List, [], ◌∷◌}
 use lib.Dec.{eqb-suc-zero}
@@ -57,7 +57,12 @@ module _ (table : List Row) (k : ℕ) where
   from n w y (write i f ∷ rest) words e =
       ap (after (a_write i (f w))) (ap (λ (l : List Row). log l n (f w) words) (sym (due_then e)) ∙ sym (ahead_then e n (f w) y words))
   from zero w y (poll i bit ∷ rest) words e = refl
-  from (suc n) w y (poll i bit ∷ rest) words e = rw (eqb-suc-zero n, sub-one) (polled words)
+  from (suc n) w y (poll i bit ∷ rest) words e =
+      rw (eqb-suc-zero n)
+      (subst
+      (λ (m : ℕ). polls i bit (log rest) (suc n) words ≡ unfolded table (answered (reads i)) (place (k + 1) m w) y words)
+      (sym (sub-one (suc n)))
+      (polled words))
     where
       polled : (words : List ℕ) → polls i bit (log rest) (suc n) words ≡ unfolded table (answered (reads i)) (place (k + 1) n w) y words
       polled [] = refl

@@ -1,4 +1,6 @@
 // The PLL sequence, one register access a step: the host owns the registers, and here are the order and the words.
+#![tactic(auto)]
+
 ghost use Rattle.std.specs.Prelude.{◌≡◌, ◌<◌};
 ghost use Rattle.pll_step.specs.Due.{asks, tell};
 ghost use Rattle.pll_rows.specs.Sequence.{sequence};
@@ -7,7 +9,7 @@ ghost use Rattle.pll_step.specs.Step.{received, ask, Steps};
 use pll_rows::{Due, PllPlan, locked, row};
 
 // Where a run stands: how many rows of the sequence are done, the polls that are left, the word last read or written.
-#[derive(Drop)]
+#[derive(Clone, Copy)]
 pub struct Place {
     pub at: u8,
     pub polls: u16,
@@ -16,14 +18,14 @@ pub struct Place {
 
 // A run. A caller can make any value of it, and a step is settled for them all: past the last row it is locked, and a setting too
 // wide for its field, which no start gives, never reaches the other bits.
-#[derive(Drop)]
+#[derive(Clone, Copy)]
 pub struct PllSequence {
     pub plan: PllPlan,
     pub place: Place,
 }
 
 // What the host is to do: read a word of the image, write a value to one, or nothing more.
-#[derive(Drop)]
+#[derive(Clone, Copy)]
 pub enum Request {
     Read(u32),
     Write(u32, u32),
@@ -31,13 +33,13 @@ pub enum Request {
     LockTimeout,
 }
 
-#[derive(Drop)]
+#[derive(Clone, Copy)]
 pub struct Step {
     pub request: Request,
     pub next: PllSequence,
 }
 
-#[derive(Drop)]
+#[derive(Clone, Copy)]
 struct Asking {
     request: Request,
     place: Place,

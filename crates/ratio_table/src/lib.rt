@@ -1,26 +1,28 @@
 // Clocks that are given undivided, each two of them as a ratio in lowest terms, and the table of four: nothing is divided before two are
 // compared, since whole Hertz hide what a resampler needs.
+#![tactic(auto)]
+
 ghost use Rattle.std.specs.Prelude.{◌≡◌};
 ghost use Rattle.ratio_table.specs.Lowest.{Reduced, ratio, inverse as inverse_of};
 ghost use Rattle.ratio_table.specs.Table.{Compared, Six, mirror, none};
 
 use gcd::gcd;
 
-#[derive(Drop)]
+#[derive(Clone, Copy)]
 pub struct Ratio {
     pub num: u64,
     pub den: u64,
 }
 
 // A clock before any division: what its PLL gives, and the product of its divisors.
-#[derive(Drop)]
+#[derive(Clone, Copy)]
 pub struct Undivided {
     pub source: u32,
     pub product: u32,
 }
 
 // The six ratios above a table's diagonal.
-#[derive(Drop)]
+#[derive(Clone, Copy)]
 pub struct Above {
     pub r01: Ratio,
     pub r02: Ratio,

@@ -16,7 +16,7 @@ use Rattle.checks.specs.Check.{reason}
 use Rattle.evaluation.specs.declared.ClockReadError.{ClockReadError}
 use Rattle.evaluation.specs.declared.ClockReadError.TheVariants.{BadImage, DivisorZero, Overflow}
 use Rattle.evaluation.specs.Evaluated.{evaluated, judged, pick_told, told_error}
-use Rattle.evaluation.specs.Formulas.{clocks_of, outputs}
+use Rattle.evaluation.specs.Formulas.{clocks_of}
 use Rattle.sources.specs.declared.PllOutputs.{PllOutputs}
 use Rattle.ratio_table.specs.declared.Above.{Above}
 use Rattle.ratio_table.specs.Lowest.{ratio}

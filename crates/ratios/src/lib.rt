@@ -1,4 +1,6 @@
 // The exact ratio of any two of the four PL clocks of an image: document 02, W-201.
+#![tactic(auto)]
+
 ghost use Rattle.std.specs.Prelude.{◌≡◌};
 ghost use Rattle.registers.specs.Words.{word as word_of};
 ghost use Rattle.ratio_table.specs.Table.{Six};
@@ -13,7 +15,7 @@ use registers::{
 };
 use sources::{PllOutputs, io_source};
 
-#[derive(Drop)]
+#[derive(Clone, Copy)]
 pub enum RatiosCheck {
     // There are ratios, and of these six `table` makes the table: an enum cannot hold the table itself.
     Fine(Above),

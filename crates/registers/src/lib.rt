@@ -1,5 +1,7 @@
 // The image's words and their fields by name, as specs/ has them. That a number here is the right one is proved where a function
 // that reads the field by it promises `read_field word FDIV`.
+#![tactic(auto)]
+
 ghost use Rattle.std.specs.Prelude.{◌≡◌};
 ghost use Rattle.registers.specs.Words.{word as word_of};
 
@@ -94,7 +96,7 @@ pub const TRACE_SOURCE: Field = Field { lo: 4, width: 3 };
 pub const RATIO: Field = Field { lo: 0, width: 1 };
 
 // The three PLLs.
-#[derive(Drop)]
+#[derive(Clone, Copy)]
 pub enum PllType {
     Arm,
     Ddr,

@@ -1,14 +1,13 @@
 -- How long the lines are at most, and how writers in a row come to them.
 use mathlib.Core.Path.{◌≡◌}
 use mathlib.Core.List.{List, [], ◌∷◌, ◌++◌}
-use Prim.Native.Nat.{ℕ, zero, suc, ◌+◌, ◌-◌, ◌/◌, ◌%◌, ◌≤◌, ◌<◌}
+use Prim.Native.Nat.{ℕ, zero, suc, ◌+◌, ◌-◌, ◌/◌, ◌≤◌, ◌<◌}
 use native.Mathlib.Omega.{arith}
 use native.Mathlib.Nat.{le_refl}
 use native.Mathlib.Decide.{dec_lt}
 use borrow.Author.Tests.{lt-ltb, le-ltb}
 use lib.Dec.{lit≤}
 use lib.ListN.{length, length-append}
-use Rattle.io.specs.Digits.{hex_digit_ascii}
 use Rattle.text.specs.Bytes.{bytes}
 use Rattle.text.specs.Digits.{decimal_up_to, decimal}
 use Rattle.text.specs.Put.{Put}
@@ -18,7 +17,6 @@ use Rattle.trace.specs.declared.Lead.{Lead}
 use Rattle.trace.specs.declared.Trace.{Trace}
 use Rattle.replay.specs.Report.{line, lead_line, difference_line, report_of, REPORT, fault_of, FAULT}
 use Rattle.replay.specs.declared.report.Fault.{Fault}
-use Rattle.replay.specs.declared.report.Fault.TheVariants as Fault
 
 -- a number of 64 bits has at most twenty digits
 up_to : (k n : ℕ) → length (decimal_up_to k n) ≤ suc k
@@ -26,7 +24,7 @@ up_to zero n = omega arith
 up_to (suc k) n =
     elim (dec_lt n 10) [
       | yes l ↦ rw (lt-ltb n 10 l) (omega arith)
-      | no l ↦ rw (le-ltb n 10 (omega arith)) (omega (arith, length-append (decimal_up_to k (n / 10)) (hex_digit_ascii (n % 10) ∷ []), up_to k (n / 10)))
+      | no l ↦ rw (le-ltb n 10 (omega arith)) (omega (arith, length-append {A = ℕ}, up_to k (n / 10)))
     ]
 
 pub twenty : (n : ℕ) → length (decimal n) ≤ 20

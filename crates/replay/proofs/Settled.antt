@@ -20,9 +20,7 @@ use Rattle.replay.specs.Turns.{so_far, at_end, Advances, Turned}
 use Rattle.replay.specs.declared.report.Fault.TheVariants as Fault
 use Rattle.replay.specs.declared.read.Held.{Held}
 use Rattle.replay.specs.declared.read.Outcome.{Outcome}
-use Rattle.replay.specs.declared.read.Outcome.TheVariants as Outcome
 use Rattle.replay.specs.declared.read.Turn.{Turn}
-use Rattle.replay.specs.declared.read.Turn.TheVariants as Turn
 use Rattle.replay.proofs.Sampling.{measured, samples_on, left_on}
 
 in_reach : (t : List Sample) {s : Trace} {r : Fed} → Feeds s (firsts t) (seconds t) r → r.refusal ≡ 0 → s.samples + length t ≤ MOST
@@ -124,7 +122,7 @@ module _ {input after : List ℕ} {h : Held} (g : Reading input h) where
   gone_on block (Advances.too_long m) q = never (cc)
 
   pub one_more : {t : Turn} {next : Held} → Turned h.trace (take h.count input) after t → t ≡ Turn.More next → Reading after next
-  one_more (Turned.a_Block block a) q = gone_on block a q
+  one_more (Turned.a_block block a) q = gone_on block a q
   one_more Turned.the_end q = never (cc)
   one_more Turned.unreadable q = never (cc)
 
@@ -133,7 +131,7 @@ module _ {input after : List ℕ} {h : Held} (g : Reading input h) where
   stopped block (Advances.too_long m) q = subst Told (cc) (beyond block g.reads m)
 
   pub done : {t : Turn} {o : Outcome} → Turned h.trace (take h.count input) after t → t ≡ Turn.Ended o → Told o
-  done (Turned.a_Block block a) q = stopped block a q
+  done (Turned.a_block block a) q = stopped block a q
   done Turned.the_end q = subst Told (cc) (at_the_end (take h.count input) g.reads)
   done Turned.unreadable q = subst Told (cc) (unread g.reads)
 

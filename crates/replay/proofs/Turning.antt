@@ -19,11 +19,8 @@ use Rattle.replay.specs.Turns.{so_far, at_end, Room, Filled, Advances, Turned}
 use Rattle.replay.specs.declared.block.Taken.{Taken}
 use Rattle.replay.specs.declared.report.Fault.TheVariants as Fault
 use Rattle.replay.specs.declared.read.Got.{Got}
-use Rattle.replay.specs.declared.read.Got.TheVariants as Got
 use Rattle.replay.specs.declared.read.Outcome.{Outcome}
-use Rattle.replay.specs.declared.read.Outcome.TheVariants as Outcome
 use Rattle.replay.specs.declared.read.Turn.{Turn}
-use Rattle.replay.specs.declared.read.Turn.TheVariants as Turn
 use Rattle.replay.proofs.Sampling.{measured}
 
 -- two rows of one trace are refused for its length only
@@ -91,7 +88,7 @@ filled held before got h k = record { front = take_put held (length before - hel
 pub read_on : {s : Trace} (before after : List ℕ) {last : List ℕ} (held got : ℕ) {t : Turn} → take held after ≡ take held before →
     Advances s (take (held + got) after) last t → Turned s (take held before) last t
 read_on {s} before after {last} held got {t} e a =
-    Turned.a_Block (take got (drop held after))
+    Turned.a_block (take got (drop held after))
     (subst (λ (l : List ℕ). Advances s l last t) (take-add held got after ∙ ap (λ (l : List ℕ). l ++ take got (drop held after)) e) a)
 
 pub room_for : {held : ℕ} {before after : List ℕ} {r : Got} {n : ℕ} → Filled held before after r → r ≡ Got.Bytes n → held + n ≤ length before

@@ -6,7 +6,6 @@ use Rattle.trace.specs.Parts.{MOST, Feeds, fed}
 use Rattle.replay.specs.Samples.{samples_of, left_of}
 use Rattle.replay.specs.declared.report.Fault.TheVariants as Fault
 use Rattle.replay.specs.declared.read.Outcome.{Outcome}
-use Rattle.replay.specs.declared.read.Outcome.TheVariants as Outcome
 
 -- These bytes were read, in any blocks, and led to this state; `held` is what there is of a sample that has not ended.
 -- Law `settled`: the state has the numbers of the bytes' samples, however the blocks were cut.

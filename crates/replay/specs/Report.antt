@@ -5,7 +5,6 @@ use Rattle.text.specs.Digits.{decimal}
 use Rattle.trace.specs.declared.Lead.{Lead}
 use Rattle.trace.specs.declared.Trace.{Trace}
 use Rattle.replay.specs.declared.report.Fault.{Fault}
-use Rattle.replay.specs.declared.report.Fault.TheVariants as Fault
 
 -- a number behind its name
 abbrev pub line : List ℕ → ℕ → List ℕ

@@ -6,11 +6,8 @@ use Rattle.trace.specs.Parts.{MOST, Feeds, fed}
 use Rattle.replay.specs.Samples.{samples_of, left_of}
 use Rattle.replay.specs.declared.report.Fault.TheVariants as Fault
 use Rattle.replay.specs.declared.read.Got.{Got}
-use Rattle.replay.specs.declared.read.Got.TheVariants as Got
 use Rattle.replay.specs.declared.read.Outcome.{Outcome}
-use Rattle.replay.specs.declared.read.Outcome.TheVariants as Outcome
 use Rattle.replay.specs.declared.read.Turn.{Turn}
-use Rattle.replay.specs.declared.read.Turn.TheVariants as Turn
 
 -- how many bytes were read, where so many are held
 abbrev pub so_far : Trace → ℕ → ℕ

@@ -7,12 +7,10 @@ use borrow.Author.Tests.{lt-ltb, le-ltb, ne_eqb}
 use lib.ListN.{length}
 use Rattle.words.specs.Words.{place_of}
 use Rattle.words.specs.declared.read.Number.{Number}
-use Rattle.words.specs.declared.read.Number.TheVariants as Number
 use Rattle.words.specs.declared.split.Placed.{Placed}
 use Rattle.shapes.specs.Field.{up_to, number, known, name, most, field_of}
 use Rattle.shapes.specs.declared.fields.Fault.TheVariants as Fault
 use Rattle.shapes.specs.declared.fields.FieldRead.{FieldRead}
-use Rattle.shapes.specs.declared.fields.FieldRead.TheVariants as FieldRead
 
 -- what an answer's case and its promise come to
 pub by_case : {A B : Type 0} (f : A → B) {r a b : A} → r ≡ a → r ≡ b → f a ≡ f b

@@ -12,11 +12,8 @@ use Rattle.text.specs.Bytes.{bytes}
 use Rattle.words.specs.Reading.{hex_of, decimal_of}
 use Rattle.words.specs.Words.{words, place_of}
 use Rattle.words.specs.declared.read.Number.{Number}
-use Rattle.words.specs.declared.read.Number.TheVariants as Number
 use Rattle.words.specs.declared.read.Hex.{Hex}
-use Rattle.words.specs.declared.read.Hex.TheVariants as Hex
 use Rattle.words.specs.declared.split.Placed.{Placed}
-use Rattle.words.specs.declared.split.Placed.TheVariants as Placed
 use Rattle.words.proofs.Choosing.{chosen, never}
 use Rattle.words.proofs.Reading.{hex_below}
 use Rattle.words.proofs.Splitting.{place_below}
@@ -24,9 +21,7 @@ use Rattle.shapes.specs.Field.{up_to, eight_digits, known, name, most, field_of}
 use Rattle.shapes.specs.Shape.{End, all, bad, Parsed, then, parse, read_of, Reads}
 use Rattle.shapes.specs.declared.fields.Fault.{Fault}
 use Rattle.shapes.specs.declared.fields.FieldRead.{FieldRead}
-use Rattle.shapes.specs.declared.fields.FieldRead.TheVariants as FieldRead
 use Rattle.shapes.specs.declared.Read.{Read}
-use Rattle.shapes.specs.declared.Read.TheVariants as Read
 
 -- the largest number of a kind
 abbrev pub largest : ℕ → ℕ

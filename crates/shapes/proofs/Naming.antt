@@ -7,7 +7,6 @@ use lib.ListN.{length, take}
 use lib.Seq.{length-take-le}
 use Rattle.words.specs.Words.{words, words_from, Ends, place_of}
 use Rattle.words.specs.declared.split.Placed.{Placed}
-use Rattle.words.specs.declared.split.Placed.TheVariants as Placed
 use Rattle.words.proofs.Choosing.{never}
 use Rattle.words.proofs.Splitting.{from_start, next_words}
 use Rattle.shapes.specs.Named.{placed, named_of}

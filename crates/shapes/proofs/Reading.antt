@@ -12,7 +12,6 @@ use lib.Seq.{drop-cons, drop-drop, take-suc-set, drop-set-lt, length-take-le}
 use Rattle.shapes.specs.Field.{field_of}
 use Rattle.shapes.specs.Shape.{MOST, End, all, bad, Parsed, stop, then, parse, read_of, Reads}
 use Rattle.shapes.specs.declared.fields.Fault.{Fault}
-use Rattle.shapes.specs.declared.fields.Fault.TheVariants as Fault
 use Rattle.shapes.specs.declared.fields.FieldRead.TheVariants as FieldRead
 use Rattle.shapes.specs.declared.Read.TheVariants as Read
 

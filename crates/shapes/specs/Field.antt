@@ -4,14 +4,10 @@ use Rattle.text.specs.Bytes.{bytes}
 use Rattle.words.specs.Reading.{decimal_of, hex_of}
 use Rattle.words.specs.Words.{words, place_of}
 use Rattle.words.specs.declared.read.Number.{Number}
-use Rattle.words.specs.declared.read.Number.TheVariants as Number
 use Rattle.words.specs.declared.read.Hex.{Hex}
-use Rattle.words.specs.declared.read.Hex.TheVariants as Hex
 use Rattle.words.specs.declared.split.Placed.{Placed}
-use Rattle.words.specs.declared.split.Placed.TheVariants as Placed
 use Rattle.shapes.specs.declared.fields.Fault.TheVariants as Fault
 use Rattle.shapes.specs.declared.fields.FieldRead.{FieldRead}
-use Rattle.shapes.specs.declared.fields.FieldRead.TheVariants as FieldRead
 
 -- a decimal number of at most `most`
 abbrev pub up_to : ℕ → Number → FieldRead

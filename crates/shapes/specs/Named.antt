@@ -2,10 +2,8 @@
 use Rattle.std.specs.Prelude.{ℕ, ◌+◌, List, [], ◌∷◌, length}
 use Rattle.words.specs.Words.{place_of}
 use Rattle.words.specs.declared.split.Placed.{Placed}
-use Rattle.words.specs.declared.split.Placed.TheVariants as Placed
 use Rattle.shapes.specs.declared.fields.Fault.TheVariants as Fault
 use Rattle.shapes.specs.declared.Named.{Named}
-use Rattle.shapes.specs.declared.Named.TheVariants as Named
 
 abbrev pub placed : ℕ → Placed → Named
 placed next (Placed.At i) = Named.Name i next

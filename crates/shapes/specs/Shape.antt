@@ -3,11 +3,8 @@
 use Rattle.std.specs.Prelude.{ℕ, zero, suc, ◌+◌, ◌≡◌, cond, List, [], ◌∷◌, ◌++◌, eqb, length, drop}
 use Rattle.shapes.specs.Field.{field_of}
 use Rattle.shapes.specs.declared.fields.Fault.{Fault}
-use Rattle.shapes.specs.declared.fields.Fault.TheVariants as Fault
 use Rattle.shapes.specs.declared.fields.FieldRead.{FieldRead}
-use Rattle.shapes.specs.declared.fields.FieldRead.TheVariants as FieldRead
 use Rattle.shapes.specs.declared.Read.{Read}
-use Rattle.shapes.specs.declared.Read.TheVariants as Read
 
 -- numbers that the row has room for: more than a line of 1024 bytes can have
 abbrev pub MOST : ℕ

@@ -6,7 +6,7 @@ ghost use Rattle.shapes.specs.Field.{number as number_of, register as register_o
 use words::{Hex, Number, Placed, place, read_decimal, read_hex};
 
 // What can be wrong with a word.
-#[derive(Drop)]
+#[derive(Clone, Copy)]
 pub enum Fault {
     Missing,
     Empty,
@@ -17,12 +17,13 @@ pub enum Fault {
     NoSuchName,
 }
 
-#[derive(Drop)]
+#[derive(Clone, Copy)]
 pub enum FieldRead {
     Value(u32),
     Bad(Fault),
 }
 
+#[tactic(auto, unfolding(crate::specs::Field::field_of))]
 pub fn field(kind: u8, word: &[u8]) -> FieldRead
     ensures { result ≡ field_of kind word.now }
 {
@@ -34,6 +35,7 @@ pub fn field(kind: u8, word: &[u8]) -> FieldRead
     }
 }
 
+#[tactic(auto, unfolding(crate::specs::Field::most))]
 fn limit(kind: u8) -> u32
     ensures { result ≡ most kind }
 {

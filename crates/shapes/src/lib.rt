@@ -1,6 +1,8 @@
 // The words of a request's line: which request its first word names, and the others, read by the request's shape into a row of numbers.
 // A shape is bytes, one for each word after the name: specs/Shape.antt says what each stands for. Words are counted from 1, the name
 // being the first.
+#![tactic(auto)]
+
 mod fields;
 
 ghost use Rattle.std.specs.Prelude.{◌≡◌, length};
@@ -13,7 +15,7 @@ use fields::{FieldRead, field};
 use words::{Placed, place, word_end};
 
 // How many numbers there are, or a word's number and its fault.
-#[derive(Drop)]
+#[derive(Clone, Copy)]
 pub enum Read {
     Numbers(usize),
     Bad(u32, Fault),
@@ -64,7 +66,7 @@ fn read_row(shape: &[u8], line: &[u8], from: usize, numbers: &mut [u32]) -> Read
 }
 
 // Which name the line's first word is, counted from 0, and where the next word begins.
-#[derive(Drop)]
+#[derive(Clone, Copy)]
 pub enum Named {
     Name(usize, usize),
     Bad(Fault),

@@ -1,4 +1,6 @@
 // Where a clock comes from: a PLL's output, the PLL that a clock word selects, and the clock that the word makes of them.
+#![tactic(auto)]
+
 ghost use Rattle.std.specs.Prelude.{◌≡◌, ◌/◌};
 ghost use Rattle.sources.specs.Clock.{frequency, single, dual, trace_clk};
 ghost use Rattle.sources.specs.Source.{pll_output, output_of, arm_source, io_source, trace_source};
@@ -7,7 +9,7 @@ use fields::read_field;
 use registers::{BYPASS_FORCE, DIVISOR, DIVISOR_1, FDIV, PllType, SOURCE, TRACE_SOURCE};
 
 // What the three PLLs give, in Hertz.
-#[derive(Drop)]
+#[derive(Clone, Copy)]
 pub struct PllOutputs {
     pub arm_pll_out: u32,
     pub ddr_pll_out: u32,
@@ -15,14 +17,14 @@ pub struct PllOutputs {
 }
 
 // What the trace clock comes from: a PLL, or a clock that the EMIO brings from outside.
-#[derive(Drop)]
+#[derive(Clone, Copy)]
 pub enum TraceSource {
     From(PllType),
     Emio,
 }
 
 // The trace clock has a case of its own where its word selects the EMIO: then the chip gives it no clock.
-#[derive(Drop)]
+#[derive(Clone, Copy)]
 pub enum TraceClk {
     Hertz(u32),
     Emio,

@@ -1,5 +1,4 @@
 -- Every starred case holds: each call's own test is computed over the whole table once. Assumes nothing.
-use Prim.Native.Nat.{ℕ}
 use mathlib.Core.Bool.{Bool, false}
 use lib.Dec.{T, eqb, eqb→eq}
 use Rattle.refusals.specs.Told.{answered, refused}

@@ -33,6 +33,7 @@ module _ {A : Type 0} where
   pub of_all : (f : A → Bool) {x : A} {xs : List A} → T (all f xs) → x ∈ xs → T (f x)
   of_all f {x} {xs = y ∷ ys} t (Memᴰ.head e) = subst (λ (z : A). T (f z)) (sym e) (both (f y) (all f ys) t).0
   of_all f {x} {xs = y ∷ ys} t (Memᴰ.tail m) = of_all f (both (f y) (all f ys) t).1 m
+  of_all f {x = x} {xs = []} t x6 = elim x6 [ ]
 
   -- some entry passes: here it is
   pub of_any : (f : A → Bool) (xs : List A) → T (any f xs) → (x : A) × (x ∈ xs) × T (f x)

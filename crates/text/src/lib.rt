@@ -1,4 +1,6 @@
 // Writing bytes, decimal numbers and eight hex digits into a lent buffer, in ASCII. Whatever the desk says goes through here.
+#![tactic(auto)]
+
 mod print;
 mod put;
 

@@ -1,5 +1,5 @@
 -- Counts after counts: what a part adds to a channel is what it adds to the whole. Assumes nothing.
-use Rattle.std.proofs.Common.{◌≡◌, ℕ, zero, suc, ◌+◌, ◌-◌, ◌*◌, ◌%◌, ◌^◌, ◌<◌, ◌≤◌, Bool, cond, List, [], ◌∷◌, ◌++◌, length, get_or, take, sym, refl, ap, ◌∙◌, subst, add_assoc, zero-add, arith, length-append, length-take-le, ne_eqb}
+use Rattle.std.proofs.Common.{◌≡◌, ℕ, zero, suc, ◌+◌, ◌*◌, ◌%◌, ◌^◌, ◌<◌, ◌≤◌, Bool, cond, List, [], ◌∷◌, ◌++◌, length, get_or, take, sym, refl, ap, ◌∙◌, subst, add_assoc, zero-add, arith, length-append, length-take-le, ne_eqb}
 use lib.Seq.{take-append-add}
 use Rattle.trace.specs.Counts.{step, ticks, last_of}
 use Rattle.trace.specs.Numbers.{of_counts}

@@ -1,5 +1,5 @@
 -- A part has one outcome, a list of samples has one state, and up to the limit nothing wraps. Assumes nothing.
-use Rattle.std.proofs.Common.{◌≡◌, ℕ, suc, ◌-◌, ◌^◌, ◌<◌, ◌≤◌, List, [], ◌∷◌, length, sym, refl, ap, ◌∙◌, subst, arith}
+use Rattle.std.proofs.Common.{◌≡◌, ℕ, suc, ◌^◌, ◌<◌, ◌≤◌, List, [], ◌∷◌, length, sym, refl, ap, ◌∙◌, subst, arith}
 use lib.IntN.{sub_ℕ}
 use Rattle.trace.specs.declared.Channel.{Channel}
 use Rattle.trace.specs.declared.Fed.{Fed}

@@ -1,5 +1,5 @@
 -- Where fewer than 65,536 ticks pass between neighbouring samples, the totals are the ticks that really passed. Assumes nothing.
-use Rattle.std.proofs.Common.{◌≡◌, ℕ, ◌-◌, ◌%◌, ◌≤◌, List, [], ◌∷◌, refl, ap, ◌∙◌, arith}
+use Rattle.std.proofs.Common.{◌≡◌, ℕ, ◌%◌, ◌≤◌, List, [], ◌∷◌, refl, ap, ◌∙◌, arith}
 use Rattle.trace.specs.declared.Channel.{Channel}
 use Rattle.trace.specs.declared.Trace.{Trace}
 use Rattle.trace.specs.Counts.{RANGE, ticks, last_of}

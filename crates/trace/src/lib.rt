@@ -1,6 +1,8 @@
 // A trace of two channels' counters, sample by sample: how many ticks each has made since the first sample, and how far either was ahead.
 // A counter has 16 bits and passes zero many times a day, so that only the step from one count to the next says anything. The state goes
 // in by value and comes back, so that a trace may be fed in parts of any length.
+#![tactic(auto)]
+
 ghost use Rattle.std.specs.Prelude.{◌≡◌, ◌-◌, ◌<◌, pos};
 ghost use Rattle.trace.specs.Numbers.{nothing};
 ghost use Rattle.trace.specs.Parts.{MOST, Onward, Feeds};
@@ -11,7 +13,7 @@ use std::num::{wrapping_add_u64, wrapping_sub_u16};
 
 // A channel's ticks since the first sample, and its last count.
 #[repr(C)]
-#[derive(Drop)]
+#[derive(Clone, Copy)]
 pub struct Channel {
     pub total: u64,
     pub last: u16,
@@ -19,14 +21,14 @@ pub struct Channel {
 
 // The most ticks that one channel was ahead of the other, and the first sample at which it was so many.
 #[repr(C)]
-#[derive(Drop)]
+#[derive(Clone, Copy)]
 pub struct Lead {
     pub ticks: u64,
     pub at: u32,
 }
 
 #[repr(C)]
-#[derive(Drop)]
+#[derive(Clone, Copy)]
 pub struct Trace {
     pub samples: u32,
     pub first: Channel,
@@ -37,7 +39,7 @@ pub struct Trace {
 
 // 0 or a refusal, and the state for the next part.
 #[repr(C)]
-#[derive(Drop)]
+#[derive(Clone, Copy)]
 pub struct Fed {
     pub refusal: u32,
     pub trace: Trace,

@@ -1,20 +1,22 @@
 // The prescaler and the interval ticks of the triple timer counter (TTC) for a wanted frequency.
+#![tactic(auto)]
+
 ghost use Rattle.ttc.specs.Interval.{Right, told};
 
 // What goes into the prescaler field: nothing, with the prescaler off, or a value p, which divides the clock by 2^(p+1).
-#[derive(Drop)]
+#[derive(Clone, Copy)]
 pub enum PrescalerReg {
     None,
     Value(u8),
 }
 
-#[derive(Drop)]
+#[derive(Clone, Copy)]
 pub struct Setting {
     pub prescaler_reg: PrescalerReg,
     pub interval_ticks: u16,
 }
 
-#[derive(Drop)]
+#[derive(Clone, Copy)]
 pub enum Interval {
     Found(Setting),
     ZeroTarget,

@@ -1,17 +1,19 @@
 // The two-stage divisor search: of the pairs of divisors, each from 1 to the largest, the one whose frequency, the reference
 // over both, is nearest the target. specs/ says which is best; the code takes one first divisor, a row, after the other.
+#![tactic(auto)]
+
 ghost use Rattle.std.specs.Prelude.{◌≡◌, ◌+◌, ◌/◌, ◌≤◌, ◌<◌};
 ghost use Rattle.two_stage.specs.Best.{frequency, Best};
 ghost use Rattle.two_stage.specs.Answer.{told, Right};
 ghost use Rattle.two_stage.specs.Row.{Given, BestInRow};
 
-#[derive(Drop)]
+#[derive(Clone, Copy)]
 pub struct DivisorPair {
     pub div0: u32,
     pub div1: u32,
 }
 
-#[derive(Drop)]
+#[derive(Clone, Copy)]
 pub enum TwoStage {
     Found(DivisorPair),
     ZeroTarget,
@@ -19,7 +21,7 @@ pub enum TwoStage {
 }
 
 // A row's best second divisor, and how far its frequency is from the target.
-#[derive(Drop)]
+#[derive(Clone, Copy)]
 struct Second {
     div1: u32,
     diff: u32,

@@ -1,11 +1,13 @@
 // The best pair of a UART clock divisor and baud divider.
+#![tactic(auto)]
+
 ghost use Rattle.std.specs.Prelude.{◌≡◌};
 ghost use Rattle.uart_best.specs.Best.{Right, told};
 ghost use Rattle.uart_best.specs.Turn.{better_of};
 
 use uart_candidate::{BaudDivisors, Tried};
 
-#[derive(Drop)]
+#[derive(Clone, Copy)]
 pub enum BestPair {
     Found(BaudDivisors),
     NoPair,

@@ -1,6 +1,7 @@
 -- What one baud divider gives, read by the case of the answer.
 use mathlib.Core.Path.{◌≡◌, refl, sym, ◌∙◌, ap, ap₂, subst, subst₂}
-use Prim.Native.Nat.{ℕ, ◌≤◌}
+use Prim.Native.Nat.{ℕ, ◌<◌, ◌≤◌}
+use native.Mathlib.Omega.{arith}
 use native.Mathlib.Decide.{dec_le}
 use lib.Dec.{T}
 use mathlib.Core.Bool.{Bool, true, false, true≢false}
@@ -31,6 +32,11 @@ alike Rule a b {bdiv} {t} h = subst₂ (λ (x y : Float). Outcome (Rule x y) bdi
 
 pub cd_at : {reference target : Float} {p : BaudDivisors} → Candidate reference target p → (bdiv : ℕ) → p.bdiv ≡ bdiv → p.cd ≡ clock_divisor reference target bdiv
 cd_at {reference} {target} {p} h bdiv e = subst (λ (b : ℕ). p.cd ≡ clock_divisor reference target b) e h.cd_is
+
+-- a bdiv whose clock divisor is above 65,535 is skipped
+pub too_large : (reference target : Float) (bdiv : ℕ) → 65535 < clock_divisor reference target bdiv
+    → Outcome (Candidate reference target) bdiv Skipped
+too_large reference target bdiv l = skipped (λ p h e. let c = cd_at h bdiv e in omega (arith, h.not_above))
 
 same : (p q : BaudDivisors) → p.cd ≡ q.cd → p.bdiv ≡ q.bdiv → p.error ≡ q.error → p ≡ q
 same p q a b c = λ i. record { cd = a i; bdiv = b i; error = c i }

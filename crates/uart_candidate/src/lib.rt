@@ -1,4 +1,6 @@
 // One baud divider of the UART search: its clock divisor, the pair's error, and whether it is viable.
+#![tactic(auto)]
+
 ghost use Rattle.std.specs.Prelude.{◌≡◌};
 ghost use Rattle.float32.specs.Whole.{of_whole};
 ghost use Rattle.uart_candidate.specs.Candidate.{clock_divisor, actual_baud, error_fraction, Candidate, Viable, Outcome};
@@ -13,7 +15,7 @@ pub const COUNT: usize = 251;
 pub const MAX_BAUDERROR_RATE: f32 = 0.005;
 
 #[repr(C)]
-#[derive(Drop)]
+#[derive(Clone, Copy)]
 pub struct BaudDivisors {
     pub cd: u16,
     pub bdiv: u8,
@@ -21,7 +23,7 @@ pub struct BaudDivisors {
 }
 
 // What one baud divider gives.
-#[derive(Drop)]
+#[derive(Clone, Copy)]
 pub enum Tried {
     Pair(BaudDivisors),
     Skipped,
@@ -49,6 +51,7 @@ fn error_fraction(reference: f32, target: f32, cd: u16, bdiv: u8) -> f32
 }
 
 // The candidate with this bdiv, for a search that has reference and target as f32 before its first turn.
+#[tactic(auto, using(crate::proofs::Pairs::too_large))]
 pub fn candidate_at(reference: f32, target: f32, bdiv: u32) -> Tried
     ensures { Outcome (Candidate reference target) bdiv result }
 {

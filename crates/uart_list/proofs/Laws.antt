@@ -147,9 +147,9 @@ module _ (reference target : Float) where
   only [] [] f g = refl
   only [] (q ∷ qs) f g = absurd (Memᴰ.not-nil (f.complete q (at_front g).0 (at_front g).1))
   only (p ∷ ps) [] f g = absurd (Memᴰ.not-nil (g.complete p (at_front f).0 (at_front f).1))
-  only (p ∷ ps) (q ∷ qs) f g =
+  only {k = k} (p ∷ ps) (q ∷ qs) f g =
       let e = fronts f g in
-      ap₂ ◌∷◌ e (only ps qs (tail f) (subst (λ (x : BaudDivisors). F (x.bdiv + 1) qs) (sym e) (tail g)))
+      ap₂ ◌∷◌ e (only {k = p.bdiv + 1} ps qs (tail f) (subst (λ (x : BaudDivisors). F (x.bdiv + 1) qs) (sym e) (tail g)))
 
   -- ---- the whole list
   pub whole : {ps : List BaudDivisors} → F FIRST ps → Viables reference target ps

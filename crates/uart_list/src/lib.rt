@@ -1,5 +1,7 @@
 // The viable pairs of a UART clock divisor and baud divider: how many there are, and the steps of listing them in lent records.
 // The call that writes them is the archive's `ogr_uart_list`: only through it can a program lend records.
+#![tactic(auto)]
+
 ghost use Rattle.std.specs.Prelude.{◌≡◌};
 ghost use Rattle.float32.specs.Whole.{of_whole};
 ghost use Rattle.uart_list.specs.Listing.{Counts};
@@ -30,6 +32,7 @@ pub fn viable_count(reference: u32, target: u32) -> usize
 }
 
 // How many there are where `lent` records are too few, else 0. The count is taken only where the records could be too few.
+#[tactic(auto, using(crate::proofs::Laws::enough, crate::proofs::Laws::fits, crate::proofs::Laws::exceeds))]
 pub fn excess(reference: u32, target: u32, lent: usize) -> usize
     ensures { Excess (of_whole reference) (of_whole target) lent result }
 {

@@ -15,9 +15,7 @@ use lib.Seq.{drop-cons}
 use Rattle.words.proofs.Choosing.{chosen, never}
 use Rattle.words.specs.Reading.{digit_of, decimal_after, decimal_of, hex_after, hex_of}
 use Rattle.words.specs.declared.read.Number.{Number}
-use Rattle.words.specs.declared.read.Number.TheVariants as Number
 use Rattle.words.specs.declared.read.Hex.{Hex}
-use Rattle.words.specs.declared.read.Hex.TheVariants as Hex
 
 -- what the ranges of bytes stand for
 pub below_0 : (c : ℕ) → c < 48 → 16 ≡ digit_of c

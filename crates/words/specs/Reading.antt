@@ -1,9 +1,7 @@
 -- The number that a word stands for, read from its first byte on.
 use Rattle.std.specs.Prelude.{ℕ, ◌+◌, ◌*◌, ◌-◌, ◌^◌, cond, List, [], ◌∷◌, eqb, ltb, length}
 use Rattle.words.specs.declared.read.Number.{Number}
-use Rattle.words.specs.declared.read.Number.TheVariants as Number
 use Rattle.words.specs.declared.read.Hex.{Hex}
-use Rattle.words.specs.declared.read.Hex.TheVariants as Hex
 
 -- what a byte stands for as a digit: `0` to `9`, `A` to `F` or `a` to `f`; 16 where it is none
 unfoldable pub digit_of : ℕ → ℕ

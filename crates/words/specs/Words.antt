@@ -1,7 +1,6 @@
 -- The words of a line: what stands between its spaces. Two spaces in a row, or one at either end, make an empty word.
 use Rattle.std.specs.Prelude.{ℕ, ◌+◌, ◌-◌, ◌≤◌, ◌<◌, ◌≡◌, Bool, true, false, cond, List, [], ◌∷◌, ◌++◌, eqb, ltb, length, get_or, take, drop}
 use Rattle.words.specs.declared.split.Placed.{Placed}
-use Rattle.words.specs.declared.split.Placed.TheVariants as Placed
 
 -- a byte in front of the first word
 abbrev pub before : ℕ → List (List ℕ) → List (List ℕ)

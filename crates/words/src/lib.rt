@@ -1,4 +1,6 @@
 // The words of a line, and the numbers that they stand for; and a part of a buffer that is kept for the next read.
+#![tactic(auto)]
+
 mod front;
 mod read;
 mod split;

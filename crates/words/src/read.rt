@@ -2,7 +2,7 @@
 ghost use Rattle.std.specs.Prelude.{◌≡◌, ◌+◌, ◌*◌, ◌≤◌, ◌^◌, min};
 ghost use Rattle.words.specs.Reading.{digit_of, decimal_of, hex_of};
 
-#[derive(Drop)]
+#[derive(Clone, Copy)]
 pub enum Number {
     Value(u32),
     Empty,
@@ -10,7 +10,7 @@ pub enum Number {
     TooLarge,
 }
 
-#[derive(Drop)]
+#[derive(Clone, Copy)]
 pub enum Hex {
     Value(u32),
     Empty,

@@ -28,7 +28,7 @@ pub fn word_end(line: &[u8], from: usize) -> usize
 }
 
 // A word's place among names, counted from 0.
-#[derive(Drop)]
+#[derive(Clone, Copy)]
 pub enum Placed {
     At(usize),
     Nowhere,

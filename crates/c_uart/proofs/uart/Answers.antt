@@ -1,0 +1,14 @@
+-- `c_uart::uart` hands back what the search tells.
+use mathlib.Core.Path.{ap}
+use native.Mathlib.Omega.{arith}
+use Rattle.handing.proofs.Handing.{refuses, answers}
+use Rattle.uart_best.specs.Best.{told}
+use Rattle.c_uart.proofs.uart.Goals as goal
+
+pub returns-in-Found : goal.returns-in-Found
+returns-in-Found c =
+    answers (omega arith) c.best_baud_divisors.ensures (ap told c.in-Found.is)
+    (let w = c.put.ensures.fits (omega arith) in (w.0, cc))
+
+pub returns-in-NoPair : goal.returns-in-NoPair
+returns-in-NoPair c = refuses (omega arith) c.best_baud_divisors.ensures (ap told c.in-NoPair.is) tt
