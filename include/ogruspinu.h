@@ -1,7 +1,7 @@
 /*
  * Ogruspinu: the clock arithmetic of a Zynq-7000, proved, for programs in C and C++.
  *
- * Link libarchive.a, which `rt staticlib archive` writes to target/staticlib/. It is for x86-64 Linux alone.
+ * Link libarchive.a, which `rust/archive` writes to crates/archive/out/. It is for x86-64 Linux alone.
  *
  * Frequencies are whole Hertz in 32 bits, and every quotient is rounded down. A row of words is lent as a pointer and its length in
  * words. The pointer may be null where the length is 0; a row that is written must not overlap another of the same call.

@@ -8,20 +8,23 @@ use std::time::SystemTime;
 
 /// The Rattle crate whose functions are exported, and its file under the repository's top.
 const CRATE: &str = "archive";
-const FILE: &str = "target/staticlib/libarchive.a";
-/// Makes it, for this machine's own processor.
+const FILE: &str = "crates/archive/out/libarchive.a";
 const SCRIPT: &str = "rust/archive";
+/// What a crate is made from; its `out` is made.
+const PARTS: [&str; 3] = ["src", "specs", "proofs"];
 
 fn main() {
     println!("cargo::rustc-check-cfg=cfg(archive)");
     println!("cargo::rerun-if-changed=build.rs");
     let here = PathBuf::from(env::var_os("CARGO_MANIFEST_DIR").expect("cargo names its folder"));
     let top = here.join("../..");
-    let (crates, file) = (top.join("crates"), top.join(FILE));
-    watch(&crates);
+    let file = top.join(FILE);
+    let sources = sources(&top);
+    sources.iter().for_each(|path| watch(path));
     watch(&top.join(SCRIPT));
     watch(&file);
-    if crates.join(CRATE).is_dir() && changed(&file) <= changed(&crates) {
+    let youngest = sources.iter().filter_map(|path| changed(path)).max();
+    if top.join("crates").join(CRATE).is_dir() && changed(&file) <= youngest {
         make(&top);
     }
     match file.canonicalize() {
@@ -31,6 +34,20 @@ fn main() {
              left out."
         ),
     }
+}
+
+/// The list of crates, and what each is made from.
+fn sources(top: &Path) -> Vec<PathBuf> {
+    let crates = fs::read_dir(top.join("crates"))
+        .into_iter()
+        .flatten()
+        .flatten();
+    let parts = crates.flat_map(|entry| PARTS.map(|part| entry.path().join(part)));
+    [top.join("crates.txt")]
+        .into_iter()
+        .chain(parts)
+        .filter(|path| path.exists())
+        .collect()
 }
 
 fn watch(path: &Path) {
