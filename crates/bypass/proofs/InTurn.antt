@@ -13,7 +13,7 @@ use Rattle.refusals.specs.Number.{DIVISOR_ZERO, OVERFLOW}
 use Rattle.clocks.specs.declared.Clocks.{Clocks}
 use Rattle.clocks.specs.Module.{module_number}
 use Rattle.checks.specs.declared.Check.{Check}
-use Rattle.checks.specs.declared.Reason.TheVariants.{Broken}
+use Rattle.std.proofs.Common.{Err}
 use Rattle.checks.specs.Check.{first_of, pick_reason, refusal}
 use Rattle.evaluation.specs.Evaluated.{judged, pick_told}
 
@@ -39,7 +39,7 @@ module _ (test : Check → Bool) (clocks : Clocks) where
   told_in_turn (check ∷ rows) = by (test check) (told_in_turn rows)
     where
       by : (b : Bool) → judged (first_of test rows) (answered clocks) ≡ in_turn rows →
-          judged (pick_reason b (Broken check) (first_of test rows)) (answered clocks) ≡ pick_told b (refusal check) (in_turn rows)
+          judged (pick_reason b (Err check) (first_of test rows)) (answered clocks) ≡ pick_told b (refusal check) (in_turn rows)
       by true e = refl
       by false e = e
 

@@ -17,12 +17,11 @@ use Rattle.registers.specs.Words.{word}
 use Rattle.sources.specs.Source.{output_of, pll_output}
 use Rattle.sources.proofs.Laws.{multiplied}
 use Rattle.clocks.specs.declared.Clocks.{Clocks}
-use Rattle.checks.specs.declared.Reason.{Reason}
-use Rattle.checks.specs.declared.Reason.TheVariants.{Nothing, Broken}
-use Rattle.checks.specs.Check.{reason}
+use Rattle.std.proofs.Common.{Ok, Err}
+use Rattle.checks.specs.Check.{Reason, reason}
 use Rattle.evaluation.specs.Evaluated.{evaluated, judged}
 use Rattle.evaluation.specs.Formulas.{clocks_of}
-use Rattle.gem.specs.Gem.{outputs_in}
+use Rattle.clocks.specs.Whole.{outputs_in}
 use Rattle.pll_rows.specs.declared.PllPlan.{PllPlan}
 use Rattle.pll_rows.specs.Sequence.{Row, read, write, poll, Access, Log, locked, timed_out, starved, a_read, a_write, after, seen, reads, polls, log, sequence, accesses_of}
 use Rattle.bypass.specs.InUse.{InUse}
@@ -81,8 +80,8 @@ only_answer crystal image clocks e =
     by (reason crystal image) (of_50 crystal image (answered clocks) (λ f. let z : ◌≡◌ {A = ℕ} 0 1 = cc in omega arith) e).1
   where
     by : (r : Reason) → judged r (answered (clocks_of crystal image)) ≡ answered clocks → clocks_of crystal image ≡ clocks
-    by Nothing f = cc
-    by (Broken check) f = let z : ◌≡◌ {A = ℕ} 0 1 = cc in absurd (omega arith)
+    by (Ok _) f = cc
+    by (Err check) f = let z : ◌≡◌ {A = ℕ} 0 1 = cc in absurd (omega arith)
 
 pll_of : (crystal : ℕ) (image : List ℕ) (pll : PllType) →
     output_of (outputs_in (clocks_of crystal image)) pll ≡ pll_output crystal (word image (pll_ctrl pll))

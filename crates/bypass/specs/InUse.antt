@@ -8,7 +8,7 @@ use Rattle.registers.specs.Words.{word}
 use Rattle.sources.specs.Source.{output_of}
 use Rattle.clocks.specs.declared.Clocks.{Clocks}
 use Rattle.evaluation.specs.Evaluated.{evaluated}
-use Rattle.gem.specs.Gem.{outputs_in}
+use Rattle.clocks.specs.Whole.{outputs_in}
 use Rattle.pll_rows.specs.declared.PllPlan.{PllPlan}
 use Rattle.pll_rows.specs.Sequence.{Access, Log, a_write}
 

@@ -5,7 +5,7 @@ use mathlib.Core.List.{List, ◌++◌}
 use native.Mathlib.Omega.{arith}
 use Rattle.handing.proofs.Unique.{Single, single, Settled, settled}
 use Rattle.clocks.specs.declared.Clocks.{Clocks}
-use Rattle.gem.specs.Gem.{outputs_in}
+use Rattle.clocks.specs.Whole.{outputs_in}
 use Rattle.c_gem.specs.Tells.{outputs_in_row}
 use Rattle.c_clocks.specs.Tells.{ClocksTells, clock_words}
 use Rattle.c_clocks.specs.Update.{IoUpdated, short, no_such_clock, sets}

@@ -1,8 +1,6 @@
 -- What evaluation tells, as numbers: every clock of a record, in the order in which include/ogruspinu.h and the desk name them.
-use Rattle.std.specs.Prelude.{ℕ, ◌≡◌, List, [], ◌∷◌, ◌++◌}
+use Rattle.std.specs.Prelude.{ℕ, ◌≡◌, List, [], ◌∷◌, ◌++◌, get_or, Option, Some, None}
 use Rattle.refusals.specs.Told.{Told, InWords}
-use Rattle.sources.specs.declared.TraceClk.{TraceClk}
-use Rattle.sources.specs.declared.TraceClk.TheVariants.{Hertz, Emio}
 use Rattle.io_clocks.specs.Update.{frequencies}
 use Rattle.clocks.specs.declared.arm.CpuClockRatio.{CpuClockRatio}
 use Rattle.clocks.specs.declared.arm.CpuClockRatio.TheVariants.{FourToTwoToOne, SixToTwoToOne}
@@ -14,13 +12,13 @@ ratio_word FourToTwoToOne = 0
 ratio_word SixToTwoToOne = 1
 
 -- EMIO brings no clock of the chip's own: 0 Hertz, and a word of its own that says so
-abbrev pub trace_word : TraceClk → ℕ
-trace_word (Hertz hertz) = hertz
-trace_word Emio = 0
+abbrev pub trace_word : Option ℕ → ℕ
+trace_word (Some hertz) = hertz
+trace_word None = 0
 
-abbrev pub emio_word : TraceClk → ℕ
-emio_word (Hertz hertz) = 0
-emio_word Emio = 1
+abbrev pub emio_word : Option ℕ → ℕ
+emio_word (Some hertz) = 0
+emio_word None = 1
 
 -- the PLL outputs ARM, IO, DDR; the CPU's reference, ratio, 1x, 2x, 3x2x, 6x4x; the DDR's reference, 3x, 2x
 abbrev pub chip_words : Clocks → List ℕ
@@ -34,7 +32,7 @@ chip_words c =
 abbrev pub last_words : Clocks → List ℕ
 last_words c =
     trace_word c.io.trace_clk ∷ emio_word c.io.trace_clk
-    ∷ c.pl.fclk_0 ∷ c.pl.fclk_1 ∷ c.pl.fclk_2 ∷ c.pl.fclk_3
+    ∷ get_or c.pl 0 0 ∷ get_or c.pl 1 0 ∷ get_or c.pl 2 0 ∷ get_or c.pl 3 0
     ∷ []
 
 -- between them the IO clocks: reference, smc, qspi, sdio, uart, spi, can, pcap

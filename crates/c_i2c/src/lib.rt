@@ -3,25 +3,23 @@
 
 ghost use Rattle.std.specs.Prelude.{◌≡◌, ◌+◌};
 ghost use Rattle.i2c.specs.Divisors.{clock};
-ghost use Rattle.handing.specs.Handed.{Handed};
+ghost use Rattle.handing.specs.Handed.{returned, Handed};
 ghost use Rattle.c_i2c.specs.Tells.{I2cTells, speed_of};
 
-use handing::{no_room, put};
-use i2c::{ClockConfig, Divisors, Speed, calculate_divisors, calculate_i2c_speed};
+use handing::{put, room};
+use i2c::{ClockConfig, Speed, calculate_divisors, calculate_i2c_speed};
+use refusals::Refusal;
 
 // Two words: the register values a - 1 and b - 1.
-pub fn i2c(input: u32, fast: bool, out: &mut [u32]) -> u64
-    ensures { Handed 2 (I2cTells input fast) out.old result out.new }
+pub fn i2c(input: u32, fast: bool, out: &mut [u32]) -> Result<(), Refusal>
+    ensures { Handed 2 (I2cTells input fast) out.old (returned result) out.new }
 {
-    if out.len() < 2 {
-        return no_room(2);
-    }
-    match calculate_divisors(input, speed_of(fast)) {
-        Divisors::Found(c) => put(out, &[c.div_a as u32, c.div_b as u32]),
-        Divisors::SpeedNotAttainable => 10,
-    }
+    room(out.len(), 2)?;
+    let c = calculate_divisors(input, speed_of(fast))?;
+    put(out, &[u32::from(c.div_a), u32::from(c.div_b)])
 }
 
+// A program in C names the speed by a truth value, whose meaning is this call's alone: a From would say it for each bool.
 fn speed_of(fast: bool) -> Speed
     ensures { result ≡ speed_of fast }
 {

@@ -1,5 +1,5 @@
 -- A step of a run that a host in C keeps: the run's numbers, what the host is told, and the run for the next step.
-use Rattle.std.specs.Prelude.{ℕ, Bool, cond, ◌&&◌, eqb, leb}
+use Rattle.std.specs.Prelude.{ℕ, Bool, cond, ◌&&◌, eqb, leb, Option, Some, None}
 use Rattle.refusals.specs.Told.{Told, answered, refused}
 use Rattle.refusals.specs.Number.{BAD_FIELD}
 use Rattle.registers.specs.declared.PllType.{PllType}
@@ -33,6 +33,13 @@ sequence_of r = record { plan = pll_plan_of r.plan; place = place r.done r.plan.
 -- a run could be in it: there are three PLLs and twelve rows, and every setting fits its field
 abbrev pub takes : Run → Bool
 takes r = leb r.plan.pll 2 && (leb r.done 12 && fits (config_of r.plan))
+
+-- the same, as far as the code gets it out of the numbers
+abbrev pub plan_in : Plan → Option PllPlan
+plan_in p = cond (leb p.pll 2) (Some (pll_plan_of p)) None
+
+abbrev pub sequence_in : Run → Option PllSequence
+sequence_in r = cond (takes r) (Some (sequence_of r)) None
 
 -- the plan stays, but for the polls that are left
 abbrev pub run_at : Plan → Place → Run

@@ -5,6 +5,15 @@
 pub mod starting;
 pub mod stepping;
 
+ghost use Rattle.std.specs.Prelude.{◌≡◌};
+ghost use Rattle.c_pll_start.specs.Step.{pll_plan_of, plan_in, sequence_in, run_at};
+
+use pll_rows::PllPlan;
+use pll_settings::PllConfig;
+use pll_start::fits;
+use pll_step::{Place, PllSequence};
+use registers::PllType;
+
 // What a run is for. The PLL is 0 ARM, 1 DDR, 2 IO.
 #[repr(C)]
 #[derive(Clone, Copy)]
@@ -18,6 +27,37 @@ pub struct Plan {
     pub polls: u16,
 }
 
+// Every number has a plan, which the clause of `ogr_pll_start_once` says too: those over 2 are IO's. `pll_plan` looks for them first.
+impl From<Plan> for PllPlan {
+    ghost from_gives = { λ plan p. p ≡ pll_plan_of plan };
+
+    fn from(plan: Plan) -> PllPlan {
+        PllPlan {
+            pll: match plan.pll {
+                0 => PllType::Arm,
+                1 => PllType::Ddr,
+                _ => PllType::Io,
+            },
+            config: PllConfig {
+                fdiv: plan.fdiv,
+                charge_pump: plan.charge_pump,
+                loop_resistor: plan.loop_resistor,
+                lock_count: plan.lock_count,
+            },
+            bypassed: plan.bypassed,
+        }
+    }
+}
+
+impl Plan {
+    // None where the number is that of no PLL.
+    pub fn pll_plan(self) -> Option<PllPlan>
+        ensures { result ≡ plan_in self }
+    {
+        (self.pll <= 2).then_some(PllPlan::from(self))
+    }
+}
+
 // The plan with the polls that are left, how many rows of the sequence are done, and the word last read or written.
 #[repr(C)]
 #[derive(Clone, Copy)]
@@ -26,6 +66,47 @@ pub struct Run {
     pub done: u8,
     pub word: u32,
 }
+
+impl Run {
+    // Where the run is, or None where no run has its numbers.
+    fn sequence(self) -> Option<PllSequence>
+        ensures { result ≡ sequence_in self }
+    {
+        let plan = self.plan.pll_plan()?;
+        if self.done > 12 || !fits(plan.config) {
+            return None;
+        }
+        let place = Place {
+            at: self.done,
+            polls: self.plan.polls,
+            word: self.word,
+        };
+        Some(PllSequence { plan, place })
+    }
+
+    // The plan stays, but for the polls that are left.
+    fn at(plan: Plan, place: Place) -> Run
+        ensures { result ≡ run_at plan place }
+    {
+        Run {
+            plan: Plan {
+                polls: place.polls,
+                ..plan
+            },
+            done: place.at,
+            word: place.word,
+        }
+    }
+}
+
+// What the host is to do, by the header's numbers: read a word, write one, or nothing more, since the PLL is locked or the call was refused.
+const READ: u32 = 0;
+
+const WRITE: u32 = 1;
+
+const LOCKED: u32 = 2;
+
+const NOTHING: u32 = 3;
 
 // 0 or a refusal, what the host is to do, and the run for the next step.
 #[repr(C)]

@@ -1,24 +1,23 @@
 -- One crystal and image have one result, and one thing is handed back. Assumes nothing.
 use Prim.Native.Nat.{ℕ, ◌+◌, ◌*◌, ◌/◌, ◌%◌, ◌^◌, ◌<◌}
-use mathlib.Core.Path.{◌≡◌, sym, ap, subst⁻¹, ◌∙◌}
+use mathlib.Core.Path.{◌≡◌, refl, sym, ap, ◌∙◌}
 use mathlib.Core.List.{List}
 use native.Mathlib.Decide.{dec_le}
 use native.Mathlib.Omega.{arith}
-use lib.ListN.{get_or, get_or-eq_default}
-use Rattle.refusals.specs.Told.{answered, refused}
+use lib.ListN.{get_or, get_or-eq_default, length}
+use Rattle.std.specs.Prelude.{Err}
+use Rattle.refusals.specs.Refusal.{told as told_refusal}
+use Rattle.refusals.specs.Told.{Told, answered}
 use Rattle.handing.proofs.Unique.{Single, single, Settled, settled}
-use Rattle.evaluation.specs.declared.ClockReadError.{ClockReadError}
-use Rattle.evaluation.specs.declared.ClockReadError.TheVariants.{BadImage, DivisorZero, Overflow}
-use Rattle.evaluation.specs.Evaluated.{told_error}
-use Rattle.ratio_table.specs.declared.Above.{Above}
 use Rattle.ratio_table.specs.declared.Ratio.{Ratio}
-use Rattle.ratios.specs.Checked.{Checks, Right, checked, fine}
+use Rattle.ratios.specs.declared.RatiosError.{RatiosError}
+use Rattle.ratios.specs.declared.RatiosError.TheVariants.{Evaluation, ZeroClock}
+use Rattle.ratios.specs.Checked.{Checks, Right, accepted, checked, fine, refusal_of, told}
 use Rattle.ratios.specs.Checked as check
-use Rattle.ratio_table.specs.Lowest.{ratio}
-use Rattle.ratio_table.specs.Table.{Square, mirror}
-use Rattle.ratios.proofs.Checking.{right_table}
+use Rattle.ratio_table.specs.Table.{Square}
 use Rattle.ratios.proofs.Crystal.{small}
 use Rattle.ratios.proofs.Laws.{ratios_of, unique}
+use Rattle.c_clocks.proofs.Errors.{as_refusal as evaluation_refusal}
 use Rattle.c_ratios.specs.Tells.{RatiosTells, TableOrRefusal, refusal, table, table_words}
 use Rattle.c_ratios.proofs.Words.{at, words_long}
 
@@ -56,18 +55,15 @@ module _ (crystal : ℕ) (image : List ℕ) where
       q : Square t
       q = square ok r
 
-  -- what the check call tells, as a table
-  module _ {a : Above} {t : List (List Ratio)} (e : t ≡ mirror (ratio 1 1) a) where
-    pub table_told : Checks crystal image (answered a) → TableOrRefusal crystal image (answered t)
-    table_told (check.ratios ok s) = table ok (subst⁻¹ (Right crystal image) e (right_table crystal image (check.ratios ok s)))
+  -- what the check call tells, in these words
+  pub table_or_refusal : {t : Told (List (List Ratio))} → Checks crystal image t → TableOrRefusal crystal image t
+  table_or_refusal (check.ratios ok r) = table ok (accepted ok r)
+  table_or_refusal (check.refusal not_ok) = refusal not_ok
 
-    pub table_square : Checks crystal image (answered a) → Square t
-    table_square (check.ratios ok s) = square ok (subst⁻¹ (Right crystal image) e (right_table crystal image (check.ratios ok s)))
+  pub long : {t : List (List Ratio)} → TableOrRefusal crystal image (answered t) → length (table_words t) ≡ 32
+  long (table ok r) = words_long (square ok r)
 
-  pub refusal_told : {number : ℕ} {carried : List ℕ} → Checks crystal image (refused number carried) → TableOrRefusal crystal image (refused number carried)
-  refusal_told (check.refusal not_ok) = refusal not_ok
-
-  pub error_told : (e : ClockReadError) → Checks crystal image (told_error e) → TableOrRefusal crystal image (told_error e)
-  error_told BadImage h = refusal_told h
-  error_told (DivisorZero id) h = refusal_told h
-  error_told (Overflow id) h = refusal_told h
+-- what is told of an error is what is told of the refusal that it is
+pub as_refusal : (e : RatiosError) → told (Err e) ≡ told_refusal (Err (refusal_of e))
+as_refusal (Evaluation error) = evaluation_refusal error
+as_refusal ZeroClock = refl

@@ -1,11 +1,10 @@
 -- A table's numbers by their places. Assumes nothing.
-use Prim.Native.Nat.{ℕ, ◌+◌, ◌*◌, ◌/◌, ◌%◌, ◌<◌, ◌≤◌}
-use mathlib.Core.Path.{◌≡◌, refl, sym, ap, subst, subst⁻¹}
-use mathlib.Core.List.{List, [], ◌∷◌, ◌++◌}
+use Prim.Native.Nat.{ℕ, ◌+◌, ◌*◌, ◌/◌, ◌%◌, ◌<◌}
+use mathlib.Core.Path.{◌≡◌, refl, ap, subst, subst⁻¹}
+use mathlib.Core.List.{List, [], ◌∷◌}
 use native.Mathlib.Omega.{arith}
-use lib.ListN.{drop, get_or, length, set}
+use lib.ListN.{get_or, length}
 use lib.Seq.{ext_get_or}
-use Rattle.handing.proofs.Over.{Copying, begun, one_more, all_copied}
 use Rattle.ratio_table.specs.declared.Ratio.{Ratio}
 use Rattle.ratio_table.specs.Lowest.{ratio}
 use Rattle.ratio_table.specs.Table.{Square, entry}
@@ -50,34 +49,3 @@ module _ {t : List (List Ratio)} (s : Square t) where
   at k h =
       subst⁻¹ (λ (words : List ℕ). At words k) (ap table_words as_written)
       (subst (At (table_words (written t))) (let e : 4 * (k / 4) + k % 4 ≡ k = omega arith in e) (each (k / 4) (omega arith) (k % 4) (omega arith)))
-
--- what stands in a row after k ratios
-pub record Filling (t : List (List Ratio)) (row out : List ℕ) (k : ℕ) : Type 0 where
-  pub bound : k ≤ 16
-  pub square : Square t
-  pub copying : Copying row (table_words t) out (2 * k)
-
-pub started : {t : List (List Ratio)} {row : List ℕ} → Square t → 32 ≤ length row → Filling t row row 0
-started s h = record { bound = omega arith; square = s; copying = begun (omega (arith, words_long s)) }
-
-module _ {t : List (List Ratio)} {row out : List ℕ} {k : ℕ} (f : Filling t row out k) where
-  pub turn : k < 16 → Filling t row (set (set out (2 * k) (entry t (k / 4) (k % 4)).num) (2 * k + 1) (entry t (k / 4) (k % 4)).den) (k + 1)
-  turn h =
-      let a = at f.square k h in
-      let l = words_long f.square in
-      record {
-        bound = omega arith;
-        square = f.square;
-        copying =
-            subst (Copying row (table_words t) _) (let e : 2 * k + 1 + 1 ≡ 2 * (k + 1) = omega arith in e)
-            (one_more (one_more f.copying (omega (arith, l)) (sym a.0)) (omega (arith, l)) (sym a.1));
-      }
-
-  pub length_kept : length out ≡ length row
-  length_kept = f.copying.as_long
-
-  pub in_row : k < 16 → 2 * k + 1 < length out
-  in_row h = omega (arith, words_long f.square, f.copying.room, f.copying.as_long)
-
-  pub ended : (k < 16 → ⊥) → out ≡ table_words t ++ drop (length (table_words t)) row
-  ended h = all_copied f.copying (omega (arith, words_long f.square, h))

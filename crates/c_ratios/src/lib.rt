@@ -1,42 +1,36 @@
 // The exact ratios of the four PL clocks, told as numbers.
 #![tactic(auto)]
 
-ghost use Rattle.std.specs.Prelude.{◌≡◌, ◌++◌, ◌≤◌, length, drop};
-ghost use Rattle.handing.specs.Handed.{Handed};
-ghost use Rattle.ratio_table.specs.Table.{Square};
-ghost use Rattle.c_ratios.specs.Tells.{RatiosTells, table_words};
+ghost use Rattle.std.specs.Prelude.{◌≡◌};
+ghost use Rattle.std.specs.List.{flat_map};
+ghost use Rattle.handing.specs.Handed.{Handed, returned};
+ghost use Rattle.c_ratios.specs.Tells.{RatiosTells, row_words, table_words};
 
-use c_clocks::error_code;
-use handing::no_room;
-use ratio_table::{Ratio, table};
-use ratios::{RatiosCheck, ratios_check};
+use handing::{put, room};
+use ratio_table::Ratio;
+use ratios::ratios_check;
+use refusals::Refusal;
 
-fn put_table(t: [[Ratio; 4]; 4], out: &mut [u64])
-    requires { Square t × (32 ≤ length out.old) }
-    ensures { out.new ≡ table_words t ++ drop (length (table_words t)) out.old }
+// Numerator and denominator of each ratio of a row.
+fn row_words(row: [Ratio; 4]) -> [u64; 8]
+    ensures { result ≡ row_words row }
 {
-    let mut k = 0;
-    while k < 16 {
-        let r = t[k / 4][k % 4];
-        out[2 * k] = r.num;
-        out[2 * k + 1] = r.den;
-        k += 1;
-    }
+    let [a, b, c, d] = row;
+    [a.num, a.den, b.num, b.den, c.num, c.den, d.num, d.den]
+}
+
+// The rows of a table one after the other.
+fn table_words(table: [[Ratio; 4]; 4]) -> [[u64; 8]; 4]
+    ensures { flat_map (λ row. row) result ≡ table_words table }
+{
+    table.map(row_words)
 }
 
 // Thirty-two numbers, a row of the table after the other.
-pub fn ratios(crystal: u32, image: &[u32], out: &mut [u64]) -> u64
-    ensures { Handed 32 (RatiosTells crystal image.now) out.old result out.new }
+pub fn ratios(crystal: u32, image: &[u32], out: &mut [u64]) -> Result<(), Refusal>
+    ensures { Handed 32 (RatiosTells crystal image.now) out.old (returned result) out.new }
 {
-    if out.len() < 32 {
-        return no_room(32);
-    }
-    match ratios_check(crystal, image) {
-        RatiosCheck::Fine(above) => {
-            put_table(table(above), out);
-            0
-        }
-        RatiosCheck::Refused(error) => error_code(error),
-        RatiosCheck::ZeroClock => 14,
-    }
+    room(out.len(), 32)?;
+    let table = ratios_check(crystal, image)?;
+    put(out, table_words(table).as_flattened())
 }

@@ -3,24 +3,20 @@
 
 ghost use Rattle.std.specs.Prelude.{◌≡◌};
 ghost use Rattle.two_stage.specs.Best.{frequency};
-ghost use Rattle.handing.specs.Handed.{Handed};
+ghost use Rattle.handing.specs.Handed.{returned, Handed};
 ghost use Rattle.c_two_stage.specs.Tells.{TwoStageTells};
 
-use handing::{no_room, put};
-use two_stage::{DivisorPair, TwoStage, find_two_stage_divisors};
+use handing::{put, room};
+use refusals::Refusal;
+use two_stage::{DivisorPair, find_two_stage_divisors};
 
 // Two words: the first and the second divisor.
-pub fn two_stage(reference: u32, target: u32, largest: u32, out: &mut [u32]) -> u64
-    ensures { Handed 2 (TwoStageTells reference target largest) out.old result out.new }
+pub fn two_stage(reference: u32, target: u32, largest: u32, out: &mut [u32]) -> Result<(), Refusal>
+    ensures { Handed 2 (TwoStageTells reference target largest) out.old (returned result) out.new }
 {
-    if out.len() < 2 {
-        return no_room(2);
-    }
-    match find_two_stage_divisors(reference, target, largest) {
-        TwoStage::Found(p) => put(out, &[p.div0, p.div1]),
-        TwoStage::ZeroTarget => 6,
-        TwoStage::BadMax => 7,
-    }
+    room(out.len(), 2)?;
+    let p = find_two_stage_divisors(reference, target, largest)?;
+    put(out, &[p.div0, p.div1])
 }
 
 // The frequency of a pair: no refusal, and 0 Hertz where a divisor is 0.

@@ -8,15 +8,38 @@ use native.Mathlib.Nat.{le_of_suc-le-suc}
 use native.Mathlib.Omega.{arith}
 use lib.ListN.{length, get_or}
 use Rattle.checks.specs.declared.Check.{Check}
-use Rattle.checks.specs.declared.Reason.TheVariants.{Nothing, Broken}
-use Rattle.checks.specs.Check.{first_of, pick_reason}
+use Rattle.std.proofs.Common.{Ok, Err}
+use Rattle.checks.specs.Check.{Reason, checks, pll_checks, cpu_ddr_checks, io_checks, pl_checks, first_of, pick_reason}
+
+-- a reason, or else another
+abbrev pub or_else : Reason → Reason → Reason
+or_else (Ok _) b = b
+or_else (Err check) b = Err check
 
 module _ (test : Check → Bool) where
-  pub take : (check : Check) (more : List Check) → test check ≡ true → first_of test (check ∷ more) ≡ Broken check
+  pub take : (check : Check) (more : List Check) → test check ≡ true → first_of test (check ∷ more) ≡ Err check
   take check more b = rw b
 
   pub skip : (check : Check) (more : List Check) → test check ≡ false → first_of test (check ∷ more) ≡ first_of test more
   skip check more b = rw b
+
+  -- rows one after the other: the reason of the first row that has one
+  one_row : (row more : List Check) → first_of test (row ++ more) ≡ or_else (first_of test row) (first_of test more)
+  one_row [] more = refl
+  one_row (check ∷ row) more = by (test check) (one_row row more)
+    where
+      by : (b : Bool) → first_of test (row ++ more) ≡ or_else (first_of test row) (first_of test more) →
+          pick_reason b (Err check) (first_of test (row ++ more)) ≡ or_else (pick_reason b (Err check) (first_of test row)) (first_of test more)
+      by true e = refl
+      by false e = e
+
+  pub in_rows :
+      first_of test checks
+      ≡ or_else (first_of test pll_checks) (or_else (first_of test cpu_ddr_checks) (or_else (first_of test io_checks) (first_of test pl_checks)))
+  in_rows =
+      one_row pll_checks (cpu_ddr_checks ++ io_checks ++ pl_checks)
+      ∙ ap (or_else (first_of test pll_checks))
+      (one_row cpu_ddr_checks (io_checks ++ pl_checks) ∙ ap (or_else (first_of test cpu_ddr_checks)) (one_row io_checks pl_checks))
 
   -- no check of a list is broken
   pub data Clear : List Check → Type 0 where
@@ -25,7 +48,7 @@ module _ (test : Check → Bool) where
 
   -- what stands before a broken check decides nothing where none of it is broken: that check is the reason, whatever comes after
   pub first : {before : List Check} → Clear before → (check : Check) (after : List Check) → test check ≡ true →
-      first_of test (before ++ (check ∷ after)) ≡ Broken check
+      first_of test (before ++ (check ∷ after)) ≡ Err check
   first none check after b = take check after b
   first (one_more {check = c} {more = m} f clear) check after b =
       skip c (m ++ (check ∷ after)) f ∙ first clear check after b
@@ -38,8 +61,8 @@ module _ (test : Check → Bool) where
     pub clear : Clear before
     pub broke : test check ≡ true
 
-  given_at : (c : Check) (more : List Check) (check : Check) → (first_of test more ≡ Broken check → Given more check) →
-      (b : Bool) → test c ≡ b → pick_reason b (Broken c) (first_of test more) ≡ Broken check → Given (c ∷ more) check
+  given_at : (c : Check) (more : List Check) (check : Check) → (first_of test more ≡ Err check → Given more check) →
+      (b : Bool) → test c ≡ b → pick_reason b (Err c) (first_of test more) ≡ Err check → Given (c ∷ more) check
   given_at c more check later true t e =
       let same : c ≡ check = cc in
       record {
@@ -59,16 +82,16 @@ module _ (test : Check → Bool) where
         broke = g.broke;
       }
 
-  pub given : (all : List Check) (check : Check) → first_of test all ≡ Broken check → Given all check
+  pub given : (all : List Check) (check : Check) → first_of test all ≡ Err check → Given all check
   given [] check e = let z : ◌≡◌ {A = ℕ} 0 1 = cc in absurd (omega arith)
   given (c ∷ more) check e = given_at c more check (given more check) (test c) refl e
 
-  clear_at : (c : Check) (more : List Check) → (first_of test more ≡ Nothing → Clear more) →
-      (b : Bool) → test c ≡ b → pick_reason b (Broken c) (first_of test more) ≡ Nothing → Clear (c ∷ more)
+  clear_at : (c : Check) (more : List Check) → (first_of test more ≡ Ok tt → Clear more) →
+      (b : Bool) → test c ≡ b → pick_reason b (Err c) (first_of test more) ≡ Ok tt → Clear (c ∷ more)
   clear_at c more later true t e = let z : ◌≡◌ {A = ℕ} 0 1 = cc in absurd (omega arith)
   clear_at c more later false t e = one_more t (later e)
 
-  pub all_clear : (all : List Check) → first_of test all ≡ Nothing → Clear all
+  pub all_clear : (all : List Check) → first_of test all ≡ Ok tt → Clear all
   all_clear [] e = none
   all_clear (c ∷ more) e = clear_at c more (all_clear more) (test c) refl e
 

@@ -1,5 +1,5 @@
 -- What evaluation checks, in the order of document 01, "Evaluation". The first check that a crystal and an image break decides.
-use Rattle.std.specs.Prelude.{ℕ, Bool, true, false, List, [], ◌∷◌, ◌++◌, eqb, ltb}
+use Rattle.std.specs.Prelude.{ℕ, Bool, true, false, List, [], ◌∷◌, ◌++◌, Result, Ok, Err, ⊤, eqb, ltb}
 use Rattle.refusals.specs.Told.{Told, refused}
 use Rattle.refusals.specs.Number.{DIVISOR_ZERO, OVERFLOW}
 use Rattle.fields.specs.declared.Field.{Field}
@@ -11,8 +11,6 @@ use Rattle.clocks.specs.declared.module_id.ClockModuleId.{ClockModuleId}
 use Rattle.clocks.specs.declared.module_id.ClockModuleId.TheVariants.{Pll, Arm, Ddr, Smc, Qspi, Sdio, Uart, Spi, Pcap, Can, Trace, Fpga}
 use Rattle.clocks.specs.Module.{module_number}
 use Rattle.checks.specs.declared.Check.{Check}
-use Rattle.checks.specs.declared.Reason.{Reason}
-use Rattle.checks.specs.declared.Reason.TheVariants.{Nothing, Broken}
 use Rattle.checks.specs.declared.Rule.{Rule}
 use Rattle.checks.specs.declared.Rule.TheVariants.{NonZero, Fits}
 
@@ -83,14 +81,18 @@ breaks crystal image w field Fits = overflows crystal image w
 unfoldable pub broken : ℕ → List ℕ → Check → Bool
 broken crystal image check = breaks crystal image check.word check.field check.rule
 
+-- why a crystal and an image are refused: nothing is broken, or a check is
+abbrev pub Reason : Type 0
+Reason = Result ⊤ Check
+
 abbrev pub pick_reason : Bool → Reason → Reason → Reason
 pick_reason true a b = a
 pick_reason false a b = b
 
 -- the first of some checks that is broken
 abbrev pub first_of : (Check → Bool) → List Check → Reason
-first_of test [] = Nothing
-first_of test (check ∷ more) = pick_reason (test check) (Broken check) (first_of test more)
+first_of test [] = Ok tt
+first_of test (check ∷ more) = pick_reason (test check) (Err check) (first_of test more)
 
 unfoldable pub reason : ℕ → List ℕ → Reason
 reason crystal image = first_of (broken crystal image) checks

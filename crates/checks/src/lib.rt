@@ -1,12 +1,9 @@
-// What evaluation checks, in document 01's order, and the first check that a crystal and an image break. Each check hands on the
-// reason of an earlier one.
+// What evaluation checks, in document 01's order, and the first check that a crystal and an image break.
 #![tactic(auto)]
 
-ghost use Rattle.std.specs.Prelude.{◌≡◌, ℕ};
-ghost use Rattle.checks.specs.Check.{broken, zero, overflows, reason};
-ghost use Rattle.checks.specs.Check.{nonzero as nonzero_check, dual_checks, fits as fits_check};
+ghost use Rattle.std.specs.Prelude.{◌≡◌, [], ◌∷◌};
+ghost use Rattle.checks.specs.Check.{broken, first_of, reason, nonzero as nonzero_check, dual_checks, fits as fits_check};
 ghost use Rattle.checks.specs.Check.{pll_checks, cpu_ddr_checks, io_checks, pl_checks};
-ghost use Rattle.checks.specs.Order.{step, after};
 
 use clocks::module_id::ClockModuleId;
 use fields::{Field, read_field};
@@ -35,109 +32,109 @@ pub struct Check {
     pub id: ClockModuleId,
 }
 
+// A crystal and an image. Each of the checks ends at the first rule that they break.
+// Calls, and no table with a loop over it: the table would have a line for each check as well, and here each tests a word of a constant place.
 #[derive(Clone, Copy)]
-pub enum Reason {
-    Nothing,
-    Broken(Check),
+struct Checked<'a> {
+    crystal: u32,
+    image: &'a [u32],
 }
 
-// An earlier reason, or else this field where it is 0.
-fn nonzero(earlier: Reason, image: &[u32], at: usize, field: Field, id: ClockModuleId) -> Reason
-    ensures { result ≡ step (zero image.now at field) earlier (nonzero_check at field id) }
-{
-    if let Reason::Broken(check) = earlier {
-        return Reason::Broken(check);
+impl<'a> Checked<'a> {
+    // A field that is not to be 0.
+    #[tactic(auto, unfolding(crate::specs::Check::broken))]
+    fn nonzero(&self, at: usize, field: Field, id: ClockModuleId) -> Result<(), Check>
+        ensures { result ≡ first_of (broken self.now.crystal self.now.image.now) (nonzero_check at field id ∷ []) }
+    {
+        if read_field(word(self.image, at), field) == 0 {
+            return Err(Check {
+                word: at,
+                field,
+                rule: Rule::NonZero,
+                id,
+            });
+        }
+        Ok(())
     }
-    if read_field(word(image, at), field) == 0 {
-        Reason::Broken(Check {
-            word: at,
-            field: field,
-            rule: Rule::NonZero,
-            id: id,
-        })
-    } else {
-        Reason::Nothing
+
+    // Divisor 0 of a word, then its divisor 1.
+    fn dual(&self, at: usize, id: ClockModuleId) -> Result<(), Check>
+        ensures { result ≡ first_of (broken self.now.crystal self.now.image.now) (dual_checks at id) }
+    {
+        self.nonzero(at, DIVISOR, id)?;
+        self.nonzero(at, DIVISOR_1, id)
     }
-}
 
-// Divisor 0 of a word, then its divisor 1.
-fn dual(r: Reason, image: &[u32], at: usize, id: ClockModuleId) -> Reason
-    ensures { (crystal : ℕ) → result ≡ after (broken crystal image.now) r (dual_checks at id) }
-{
-    let r = nonzero(r, image, at, DIVISOR, id);
-    nonzero(r, image, at, DIVISOR_1, id)
-}
-
-// An earlier reason, or else this PLL where its output passes 32 bits.
-fn fits(earlier: Reason, crystal: u32, image: &[u32], at: usize) -> Reason
-    ensures { result ≡ step (overflows crystal image.now at) earlier (fits_check at) }
-{
-    if let Reason::Broken(check) = earlier {
-        return Reason::Broken(check);
+    // A PLL, by its control word, whose output is to fit 32 bits.
+    #[tactic(auto, unfolding(crate::specs::Check::broken))]
+    fn fits(&self, at: usize) -> Result<(), Check>
+        ensures { result ≡ first_of (broken self.now.crystal self.now.image.now) (fits_check at ∷ []) }
+    {
+        if pll_output(self.crystal, word(self.image, at)) > 4294967295 {
+            return Err(Check {
+                word: at,
+                field: FDIV,
+                rule: Rule::Fits,
+                id: ClockModuleId::Pll,
+            });
+        }
+        Ok(())
     }
-    if pll_output(crystal, word(image, at)) > 4294967295 {
-        Reason::Broken(Check {
-            word: at,
-            field: FDIV,
-            rule: Rule::Fits,
-            id: ClockModuleId::Pll,
-        })
-    } else {
-        Reason::Nothing
+
+    // The PLLs: each FDIV first, then each output.
+    fn plls(&self) -> Result<(), Check>
+        ensures { result ≡ first_of (broken self.now.crystal self.now.image.now) pll_checks }
+    {
+        self.nonzero(ARM_PLL_CTRL, FDIV, ClockModuleId::Pll)?;
+        self.nonzero(IO_PLL_CTRL, FDIV, ClockModuleId::Pll)?;
+        self.nonzero(DDR_PLL_CTRL, FDIV, ClockModuleId::Pll)?;
+        self.fits(ARM_PLL_CTRL)?;
+        self.fits(IO_PLL_CTRL)?;
+        self.fits(DDR_PLL_CTRL)
     }
-}
 
-// The PLLs: each FDIV first, then each output.
-fn pll_checks(r: Reason, crystal: u32, image: &[u32]) -> Reason
-    ensures { result ≡ after (broken crystal image.now) r pll_checks }
-{
-    let r = nonzero(r, image, ARM_PLL_CTRL, FDIV, ClockModuleId::Pll);
-    let r = nonzero(r, image, IO_PLL_CTRL, FDIV, ClockModuleId::Pll);
-    let r = nonzero(r, image, DDR_PLL_CTRL, FDIV, ClockModuleId::Pll);
-    let r = fits(r, crystal, image, ARM_PLL_CTRL);
-    let r = fits(r, crystal, image, IO_PLL_CTRL);
-    fits(r, crystal, image, DDR_PLL_CTRL)
-}
+    // The CPU and the DDR memory.
+    fn cpu_ddr(&self) -> Result<(), Check>
+        ensures { result ≡ first_of (broken self.now.crystal self.now.image.now) cpu_ddr_checks }
+    {
+        self.nonzero(ARM_CLK_CTRL, DIVISOR, ClockModuleId::Arm)?;
+        self.nonzero(DDR_CLK_CTRL, DIV_3X, ClockModuleId::Ddr)?;
+        self.nonzero(DDR_CLK_CTRL, DIV_2X, ClockModuleId::Ddr)
+    }
 
-// The CPU and the DDR memory.
-fn cpu_ddr_checks(r: Reason, image: &[u32]) -> Reason
-    ensures { (crystal : ℕ) → result ≡ after (broken crystal image.now) r cpu_ddr_checks }
-{
-    let r = nonzero(r, image, ARM_CLK_CTRL, DIVISOR, ClockModuleId::Arm);
-    let r = nonzero(r, image, DDR_CLK_CTRL, DIV_3X, ClockModuleId::Ddr);
-    nonzero(r, image, DDR_CLK_CTRL, DIV_2X, ClockModuleId::Ddr)
-}
+    // The IO peripherals. The trace divisor is checked under EMIO too.
+    fn io(&self) -> Result<(), Check>
+        ensures { result ≡ first_of (broken self.now.crystal self.now.image.now) io_checks }
+    {
+        self.nonzero(SMC_CLK_CTRL, DIVISOR, ClockModuleId::Smc)?;
+        self.nonzero(LQSPI_CLK_CTRL, DIVISOR, ClockModuleId::Qspi)?;
+        self.nonzero(SDIO_CLK_CTRL, DIVISOR, ClockModuleId::Sdio)?;
+        self.nonzero(UART_CLK_CTRL, DIVISOR, ClockModuleId::Uart)?;
+        self.nonzero(SPI_CLK_CTRL, DIVISOR, ClockModuleId::Spi)?;
+        self.nonzero(PCAP_CLK_CTRL, DIVISOR, ClockModuleId::Pcap)?;
+        self.dual(CAN_CLK_CTRL, ClockModuleId::Can)?;
+        self.nonzero(DBG_CLK_CTRL, DIVISOR, ClockModuleId::Trace)
+    }
 
-// The IO peripherals. The trace divisor is checked under EMIO too.
-fn io_checks(r: Reason, image: &[u32]) -> Reason
-    ensures { (crystal : ℕ) → result ≡ after (broken crystal image.now) r io_checks }
-{
-    let r = nonzero(r, image, SMC_CLK_CTRL, DIVISOR, ClockModuleId::Smc);
-    let r = nonzero(r, image, LQSPI_CLK_CTRL, DIVISOR, ClockModuleId::Qspi);
-    let r = nonzero(r, image, SDIO_CLK_CTRL, DIVISOR, ClockModuleId::Sdio);
-    let r = nonzero(r, image, UART_CLK_CTRL, DIVISOR, ClockModuleId::Uart);
-    let r = nonzero(r, image, SPI_CLK_CTRL, DIVISOR, ClockModuleId::Spi);
-    let r = nonzero(r, image, PCAP_CLK_CTRL, DIVISOR, ClockModuleId::Pcap);
-    let r = dual(r, image, CAN_CLK_CTRL, ClockModuleId::Can);
-    nonzero(r, image, DBG_CLK_CTRL, DIVISOR, ClockModuleId::Trace)
-}
-
-// The programmable logic.
-fn pl_checks(r: Reason, image: &[u32]) -> Reason
-    ensures { (crystal : ℕ) → result ≡ after (broken crystal image.now) r pl_checks }
-{
-    let r = dual(r, image, FPGA_0_CLK_CTRL, ClockModuleId::Fpga);
-    let r = dual(r, image, FPGA_1_CLK_CTRL, ClockModuleId::Fpga);
-    let r = dual(r, image, FPGA_2_CLK_CTRL, ClockModuleId::Fpga);
-    dual(r, image, FPGA_3_CLK_CTRL, ClockModuleId::Fpga)
+    // The programmable logic.
+    fn pl(&self) -> Result<(), Check>
+        ensures { result ≡ first_of (broken self.now.crystal self.now.image.now) pl_checks }
+    {
+        self.dual(FPGA_0_CLK_CTRL, ClockModuleId::Fpga)?;
+        self.dual(FPGA_1_CLK_CTRL, ClockModuleId::Fpga)?;
+        self.dual(FPGA_2_CLK_CTRL, ClockModuleId::Fpga)?;
+        self.dual(FPGA_3_CLK_CTRL, ClockModuleId::Fpga)
+    }
 }
 
 // The first check that a crystal and an image break: why evaluation refuses them.
-pub fn first_broken(crystal: u32, image: &[u32]) -> Reason
+#[tactic(auto, using(crate::proofs::Laws::in_rows), unfolding(crate::specs::Check::reason))]
+pub fn first_broken(crystal: u32, image: &[u32]) -> Result<(), Check>
     ensures { result ≡ reason crystal image.now }
 {
-    let r = pll_checks(Reason::Nothing, crystal, image);
-    let r = cpu_ddr_checks(r, image);
-    let r = io_checks(r, image);
-    pl_checks(r, image)
+    let checked = Checked { crystal, image };
+    checked.plls()?;
+    checked.cpu_ddr()?;
+    checked.io()?;
+    checked.pl()
 }

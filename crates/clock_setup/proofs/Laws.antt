@@ -1,25 +1,23 @@
--- The laws of the set-up: what the code's last arm is, and that one input has one right answer. Assumes nothing.
-use mathlib.Core.Path.{◌≡◌, refl}
+-- The laws of the set-up: one input has one right answer. Assumes nothing.
+use mathlib.Core.Path.{◌≡◌, refl, ap}
 use mathlib.Core.Logic.{◌⊎◌, ⊎_elim}
-use Prim.Native.Nat.{ℕ, ◌/◌, ◌<◌, ◌≤◌}
+use Prim.Native.Nat.{ℕ, ◌<◌, ◌≤◌}
 use native.Mathlib.Omega.{arith}
-use Rattle.refusals.specs.Told.{Told, answered}
+use Rattle.std.specs.Prelude.{Result, Ok, Err}
+use Rattle.refusals.specs.Refusal.{told as told_refusal}
+use Rattle.refusals.specs.Told.{Told}
 use Rattle.clocks.specs.declared.arm.ArmClocks.{ArmClocks}
 use Rattle.clocks.specs.declared.arm.CpuClockRatio.{CpuClockRatio}
 use Rattle.clocks.specs.declared.ddr.DdrClocks.{DdrClocks}
-use Rattle.clock_setup.specs.declared.CpuSetup.{CpuSetup}
-use Rattle.clock_setup.specs.declared.CpuSetup.TheVariants as cpu_case
-use Rattle.clock_setup.specs.declared.DdrSetup.{DdrSetup}
-use Rattle.clock_setup.specs.declared.DdrSetup.TheVariants as ddr_case
+use Rattle.clocks.specs.declared.module_id.ClockModuleId.{ClockModuleId}
+use Rattle.clocks.proofs.Laws.{same_module}
+use Rattle.clock_setup.specs.declared.SetupError.{SetupError}
+use Rattle.clock_setup.specs.declared.SetupError.TheVariants.{DivisorZero, BadField}
+use Rattle.clock_setup.specs.Setup.{refusal_of, told}
 use Rattle.clock_setup.specs.Cpu as cpu
-use Rattle.clock_setup.specs.Cpu.{CpuRight, cpu_clocks, told_cpu}
+use Rattle.clock_setup.specs.Cpu.{CpuRight}
 use Rattle.clock_setup.specs.Ddr as ddr
-use Rattle.clock_setup.specs.Ddr.{DdrRight, told_ddr}
-
--- the arm of a ratio
-pub set_up : (pll : ℕ) (ratio : CpuClockRatio) (divisor : ℕ) {r : CpuClockRatio} → r ≡ ratio → 0 < divisor → divisor ≤ 63 →
-    CpuRight pll r divisor (answered (cpu_clocks pll ratio (pll / divisor)))
-set_up pll ratio divisor e p q = rw e (cpu.clocks p q)
+use Rattle.clock_setup.specs.Ddr.{DdrRight}
 
 pub cpu_same : {pll divisor : ℕ} {ratio : CpuClockRatio} {a b : Told ArmClocks} → CpuRight pll ratio divisor a → CpuRight pll ratio divisor b → a ≡ b
 cpu_same (cpu.divisor_zero z) (cpu.divisor_zero y) = refl
@@ -50,30 +48,24 @@ ddr_same (ddr.clocks p p' q q') (ddr.divisor_zero z) = absurd (no_zero z p q)
 ddr_same (ddr.clocks p p' q q') (ddr.bad_field r s w) = absurd (no_wide w p' q')
 ddr_same (ddr.clocks p p' q q') (ddr.clocks r r' s s') = refl
 
-cpu_told : (a b : CpuSetup) → told_cpu a ≡ told_cpu b → a ≡ b
-cpu_told (cpu_case.Clocks x) (cpu_case.Clocks y) p = cc
-cpu_told (cpu_case.Clocks x) cpu_case.DivisorZero p = cc
-cpu_told (cpu_case.Clocks x) cpu_case.BadField p = cc
-cpu_told cpu_case.DivisorZero (cpu_case.Clocks y) p = cc
-cpu_told cpu_case.DivisorZero cpu_case.DivisorZero p = refl
-cpu_told cpu_case.DivisorZero cpu_case.BadField p = cc
-cpu_told cpu_case.BadField (cpu_case.Clocks y) p = cc
-cpu_told cpu_case.BadField cpu_case.DivisorZero p = cc
-cpu_told cpu_case.BadField cpu_case.BadField p = refl
+same_told : {Clocks : Type 0} (a b : Result Clocks SetupError) → told a ≡ told b → a ≡ b
+same_told (Ok x) (Ok y) p = cc
+same_told (Ok x) (Err (DivisorZero id)) p = cc
+same_told (Ok x) (Err BadField) p = cc
+same_told (Err (DivisorZero id)) (Ok y) p = cc
+same_told (Err (DivisorZero id)) (Err (DivisorZero it)) p = ap (λ (m : ClockModuleId). Err (DivisorZero m)) (same_module id it cc)
+same_told (Err (DivisorZero id)) (Err BadField) p = cc
+same_told (Err BadField) (Ok y) p = cc
+same_told (Err BadField) (Err (DivisorZero id)) p = cc
+same_told (Err BadField) (Err BadField) p = refl
 
-pub cpu_unique : {pll divisor : ℕ} {ratio : CpuClockRatio} (a b : CpuSetup) → CpuRight pll ratio divisor (told_cpu a) → CpuRight pll ratio divisor (told_cpu b) → a ≡ b
-cpu_unique a b p q = cpu_told a b (cpu_same p q)
+pub cpu_unique : {pll divisor : ℕ} {ratio : CpuClockRatio} (a b : Result ArmClocks SetupError) → CpuRight pll ratio divisor (told a) → CpuRight pll ratio divisor (told b) → a ≡ b
+cpu_unique a b p q = same_told a b (cpu_same p q)
 
-ddr_told : (a b : DdrSetup) → told_ddr a ≡ told_ddr b → a ≡ b
-ddr_told (ddr_case.Clocks x) (ddr_case.Clocks y) p = cc
-ddr_told (ddr_case.Clocks x) ddr_case.DivisorZero p = cc
-ddr_told (ddr_case.Clocks x) ddr_case.BadField p = cc
-ddr_told ddr_case.DivisorZero (ddr_case.Clocks y) p = cc
-ddr_told ddr_case.DivisorZero ddr_case.DivisorZero p = refl
-ddr_told ddr_case.DivisorZero ddr_case.BadField p = cc
-ddr_told ddr_case.BadField (ddr_case.Clocks y) p = cc
-ddr_told ddr_case.BadField ddr_case.DivisorZero p = cc
-ddr_told ddr_case.BadField ddr_case.BadField p = refl
+pub ddr_unique : {reference d₃ d₂ : ℕ} (a b : Result DdrClocks SetupError) → DdrRight reference d₃ d₂ (told a) → DdrRight reference d₃ d₂ (told b) → a ≡ b
+ddr_unique a b p q = same_told a b (ddr_same p q)
 
-pub ddr_unique : {reference d₃ d₂ : ℕ} (a b : DdrSetup) → DdrRight reference d₃ d₂ (told_ddr a) → DdrRight reference d₃ d₂ (told_ddr b) → a ≡ b
-ddr_unique a b p q = ddr_told a b (ddr_same p q)
+-- what is told of an error is what is told of the refusal that it is
+pub as_refusal : {Clocks : Type 0} (e : SetupError) → told {Clocks = Clocks} (Err e) ≡ told_refusal (Err (refusal_of e))
+as_refusal (DivisorZero id) = refl
+as_refusal BadField = refl

@@ -7,14 +7,6 @@ use Rattle.clocks.specs.declared.arm.CpuClockRatio.{CpuClockRatio}
 use Rattle.clocks.specs.declared.arm.CpuClockRatio.TheVariants.{FourToTwoToOne, SixToTwoToOne}
 use Rattle.clocks.specs.declared.module_id.ClockModuleId.TheVariants.{Arm}
 use Rattle.clocks.specs.Module.{module_number}
-use Rattle.clock_setup.specs.declared.CpuSetup.{CpuSetup}
-use Rattle.clock_setup.specs.declared.CpuSetup.TheVariants.{Clocks, DivisorZero, BadField}
-
--- document 01's number and values for each case of the answer
-abbrev pub told_cpu : CpuSetup → Told ArmClocks
-told_cpu (Clocks clocks) = answered clocks
-told_cpu DivisorZero = refused DIVISOR_ZERO (module_number Arm ∷ [])
-told_cpu BadField = refused BAD_FIELD []
 
 -- 1x is q/4 or q/6, where q is the PLL's output over the divisor
 abbrev pub one : CpuClockRatio → ℕ → ℕ

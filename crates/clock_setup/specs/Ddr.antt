@@ -6,14 +6,6 @@ use Rattle.refusals.specs.Number.{DIVISOR_ZERO, BAD_FIELD}
 use Rattle.clocks.specs.declared.ddr.DdrClocks.{DdrClocks}
 use Rattle.clocks.specs.declared.module_id.ClockModuleId.TheVariants.{Ddr}
 use Rattle.clocks.specs.Module.{module_number}
-use Rattle.clock_setup.specs.declared.DdrSetup.{DdrSetup}
-use Rattle.clock_setup.specs.declared.DdrSetup.TheVariants.{Clocks, DivisorZero, BadField}
-
--- document 01's number and values for each case of the answer
-abbrev pub told_ddr : DdrSetup → Told DdrClocks
-told_ddr (Clocks clocks) = answered clocks
-told_ddr DivisorZero = refused DIVISOR_ZERO (module_number Ddr ∷ [])
-told_ddr BadField = refused BAD_FIELD []
 
 pub data DdrRight (reference d₃ d₂ : ℕ) : Told DdrClocks → Type 0 where
   divisor_zero : (d₃ ≡ 0) ⊎ (d₂ ≡ 0) → DdrRight reference d₃ d₂ (refused DIVISOR_ZERO (module_number Ddr ∷ []))

@@ -1,2 +1,3 @@
 pub mod Cpu
 pub mod Ddr
+pub mod Setup

@@ -18,6 +18,7 @@ pub struct ArmClocks {
     pub cpu_6x4x_clk: u32,
 }
 
+// The getters are the original's interface, each by its name there.
 impl ArmClocks {
     pub fn ratio(self) -> CpuClockRatio
         ensures { result ≡ self.ratio }

@@ -8,6 +8,7 @@ pub struct DdrClocks {
     pub ddr_2x_clk: u32,
 }
 
+// The getters are the original's interface, each by its name there.
 impl DdrClocks {
     pub fn ref_clk(self) -> u32
         ensures { result ≡ self.ref_clk }

@@ -5,21 +5,13 @@ pub mod arm;
 pub mod ddr;
 pub mod module_id;
 
-ghost use Rattle.std.specs.Prelude.{◌≡◌, [], ◌∷◌};
-ghost use Rattle.clocks.specs.Whole.{with_io};
+ghost use Rattle.std.specs.Prelude.{◌≡◌};
+ghost use Rattle.clocks.specs.Whole.{with_io, outputs_in};
 
 use arm::ArmClocks;
 use ddr::DdrClocks;
 use io_clocks::IoClocks;
-
-// The four clocks of the programmable logic.
-#[derive(Clone, Copy)]
-pub struct PlClocks {
-    pub fclk_0: u32,
-    pub fclk_1: u32,
-    pub fclk_2: u32,
-    pub fclk_3: u32,
-}
+use sources::PllOutputs;
 
 #[derive(Clone, Copy)]
 pub struct Clocks {
@@ -30,9 +22,11 @@ pub struct Clocks {
     pub arm: ArmClocks,
     pub ddr: DdrClocks,
     pub io: IoClocks,
-    pub pl: PlClocks,
+    // The four clocks of the programmable logic.
+    pub pl: [u32; 4],
 }
 
+// The getters are the original's interface, each by its name there.
 impl Clocks {
     pub fn ps_clk(self) -> u32
         ensures { result ≡ self.ps_clk }
@@ -67,9 +61,20 @@ impl Clocks {
     }
 
     pub fn pl_clocks(self) -> [u32; 4]
-        ensures { result ≡ self.pl.fclk_0 ∷ self.pl.fclk_1 ∷ self.pl.fclk_2 ∷ self.pl.fclk_3 ∷ [] }
+        ensures { result ≡ self.pl }
     {
-        let pl = self.pl;
-        [pl.fclk_0, pl.fclk_1, pl.fclk_2, pl.fclk_3]
+        self.pl
+    }
+}
+
+impl From<Clocks> for PllOutputs {
+    ghost from_gives = { λ clocks out. out ≡ outputs_in clocks };
+
+    fn from(clocks: Clocks) -> PllOutputs {
+        PllOutputs {
+            arm_pll_out: clocks.arm_pll_out,
+            ddr_pll_out: clocks.ddr_pll_out,
+            io_pll_out: clocks.io_pll_out,
+        }
     }
 }

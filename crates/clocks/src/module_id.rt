@@ -21,25 +21,10 @@ pub enum ClockModuleId {
     Gem1,
 }
 
-impl ClockModuleId {
-    pub fn number(self) -> u32
-        ensures { result ≡ module_number self }
-    {
-        match self {
-            ClockModuleId::Pll => 0,
-            ClockModuleId::Ddr => 1,
-            ClockModuleId::Arm => 2,
-            ClockModuleId::Smc => 3,
-            ClockModuleId::Qspi => 4,
-            ClockModuleId::Sdio => 5,
-            ClockModuleId::Uart => 6,
-            ClockModuleId::Spi => 7,
-            ClockModuleId::Pcap => 8,
-            ClockModuleId::Can => 9,
-            ClockModuleId::Fpga => 10,
-            ClockModuleId::Trace => 11,
-            ClockModuleId::Gem0 => 12,
-            ClockModuleId::Gem1 => 13,
-        }
+impl From<ClockModuleId> for u32 {
+    ghost from_gives = { λ id number. number ≡ module_number id };
+
+    fn from(id: ClockModuleId) -> u32 {
+        id as u32
     }
 }

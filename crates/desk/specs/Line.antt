@@ -1,12 +1,13 @@
 -- The answer to one line of input.
-use Rattle.std.specs.Prelude.{ℕ, ◌+◌, ◌≤◌, ◌<◌, ◌≡◌, cond, List, [], ◌∷◌, ◌++◌, eqb, ltb, length}
+use Rattle.std.specs.Prelude.{ℕ, ◌≡◌, cond, List, [], ◌∷◌, ◌++◌, eqb, ltb, length, Result}
 use Prim.Native.String.{String}
 use Rattle.text.specs.Bytes.{bytes}
-use Rattle.text.specs.Put.{Wrote}
+use Rattle.text.specs.Page.{Contents}
+use Rattle.text.specs.Put.{Wrote, InRoom}
+use Rattle.text.specs.declared.page.Full.{Full}
 use Rattle.words.specs.Words.{words}
 use Rattle.forms.specs.Says.{ROOM}
 use Rattle.desk_requests.specs.Answer.{Answer}
-use Rattle.desk.specs.declared.line.Answered.{Answered}
 
 -- a line without a carriage return at its end
 abbrev pub trimmed : List ℕ → List ℕ
@@ -22,10 +23,10 @@ pub data RequestLine (line : List (List ℕ)) : List ℕ → Type 0 where
   answer : (text : List ℕ) → Answer line text → RequestLine line (text ++ (10 ∷ []))
 
 -- a right text was written
-pub record Writes (Right : List ℕ → Type 0) (before : List ℕ) (at : ℕ) (after : List ℕ) (next : ℕ) : Type 0 where
+pub record Writes (Right : List ℕ → Type 0) (before after : Contents) : Type 0 where
   pub text : List ℕ
   pub right : Right text
-  pub wrote : Wrote text before at after next
+  pub wrote : Wrote text before after
 
 -- A line that is blank or begins with # is passed over, one of more than 1024 bytes is told so, and any other is a request.
 pub data Kind : Type 0 where
@@ -46,7 +47,6 @@ TextOf request line text = RequestLine (words line) text
 pub record Line (line text : List ℕ) : Type 0 where
   pub text_is : TextOf (kind_of (trimmed line)) (trimmed line) text
 
--- and where: a buffer without room for the longest answer is refused and left as it was
-pub data LineAnswered (line before : List ℕ) (at : ℕ) (after : List ℕ) : Answered → Type 0 where
-  no_room : length before < at + ROOM → after ≡ before → LineAnswered line before at after Answered.NoRoom
-  written : (text : List ℕ) (next : ℕ) → at + ROOM ≤ length before → Line line text → Wrote text before at after next → LineAnswered line before at after (Answered.At next)
+-- and where: a page without room for the longest answer is refused and left as it was
+abbrev pub LineAnswered : List ℕ → Contents → Contents → Result Unit Full → Type 0
+LineAnswered line = InRoom ROOM (Writes (Line line))

@@ -1,111 +1,81 @@
 // The lines of a block of input. A line may begin in one block and end in a later one, so what a block has left of a line is
 // kept for the next; a line that has grown too long is answered at once, and the rest of it is swallowed as it comes.
-ghost use Rattle.std.specs.Prelude.{◌≤◌, ◌≡◌, false, length};
+ghost use Rattle.std.specs.Prelude.{◌≤◌, ◌≡◌, length, Ok};
 ghost use Rattle.bounds.specs.Within.{Within};
-ghost use Rattle.desk.specs.Block.{Block, LinesOf, nothing_done};
+ghost use Rattle.desk.specs.Block.{Block, LinesOf, fresh};
 
-use crate::line::{Answered, answer_line};
+use crate::line::answer_line;
+use text::Page;
 use words::until;
 
-// How far the block has been used, how much has been written, whether the rest of a line is to be swallowed, and whether
-// there is more to answer once the buffer has been emptied.
+// How far the block has been used, and whether the rest of a line is to be swallowed.
+// Whether to swallow is not what the number beside it means: a call may go on from any place in either way.
 #[derive(Clone, Copy)]
-pub struct Step {
+pub struct Place {
     pub used: usize,
-    pub written: usize,
     pub swallowing: bool,
-    pub full: bool,
 }
 
-// Answers what it can of a block from `from` on into an empty buffer. The position is one that an earlier step answered, or 0;
-// past the block's end there is nothing to do.
-pub fn answer_block(input: &[u8], from: usize, swallowing: bool, out: &mut [u8]) -> Step
-    ensures { Within from (length input.now) (Block input.now from swallowing out.old out.new result) ((result ≡ nothing_done from swallowing) × (out.new ≡ out.old)) }
+// The page has not the room for an answer: there is more to answer, from the line on that begins here, once it has been emptied.
+#[derive(Clone, Copy)]
+pub struct FullAt {
+    pub used: usize,
+}
+
+// Answers what it can of a block from a place on. The place is one that an earlier call answered, or the block's start; past the block's end
+// there is nothing to do.
+pub fn answer_block(input: &[u8], from: Place, page: &mut Page<'_>) -> Result<Place, FullAt>
+    ensures { Within from.used (length input.now) (Block input.now from page.old page.new result) ((result ≡ Ok from) × (page.new ≡ page.old)) }
 {
-    if input.len() < from {
-        return Step {
-            used: from,
-            written: 0,
-            swallowing,
-            full: false,
-        };
+    if input.len() < from.used {
+        return Ok(from);
     }
-    if swallowing {
-        let end = until(input, from, 10);
-        if end == input.len() {
-            return Step {
-                used: end,
-                written: 0,
-                swallowing: true,
-                full: false,
-            };
-        }
-        answer_fresh(input, end + 1, out)
-    } else {
-        answer_fresh(input, from, out)
+    if !from.swallowing {
+        return answer_fresh(input, from.used, page);
+    }
+    match until(input, from.used, b'\n') {
+        Some(end) => answer_fresh(input, end + 1, page),
+        None => Ok(Place {
+            used: input.len(),
+            swallowing: true,
+        }),
     }
 }
 
 // The same where a line begins. What is left of a line is kept unless even a carriage return at its end would leave it too
 // long; then it is answered.
-#[tactic(auto, using(crate::proofs::Stepping::fresh_long))]
-fn answer_fresh(input: &[u8], from: usize, out: &mut [u8]) -> Step
+fn answer_fresh(input: &[u8], from: usize, page: &mut Page<'_>) -> Result<Place, FullAt>
     requires { from ≤ length input.now }
-    ensures { Block input.now from false out.old out.new result }
+    ensures { Block input.now (fresh from) page.old page.new result }
 {
-    let step = answer_lines(input, from, out);
-    if step.full {
-        return step;
-    }
-    let used = step.used;
+    let used = answer_lines(input, from, page)?;
     if input.len() - used <= 1025 {
-        return step;
-    }
-    match answer_line(&input[used..], out, step.written) {
-        Answered::NoRoom => Step {
+        return Ok(Place {
             used,
-            written: step.written,
             swallowing: false,
-            full: true,
-        },
-        Answered::At(next) => Step {
-            used: input.len(),
-            written: next,
-            swallowing: true,
-            full: false,
-        },
+        });
     }
+    let Ok(()) = answer_line(&input[used..], page) else {
+        return Err(FullAt { used });
+    };
+    Ok(Place {
+        used: input.len(),
+        swallowing: true,
+    })
 }
 
 // Every line that ends in the block, as far as there is room for the answers.
-fn answer_lines(input: &[u8], from: usize, out: &mut [u8]) -> Step
+fn answer_lines(input: &[u8], from: usize, page: &mut Page<'_>) -> Result<usize, FullAt>
     requires { from ≤ length input.now }
-    ensures { LinesOf input.now from out.old out.new result }
+    ensures { LinesOf input.now from page.old page.new result }
 {
     let mut used = from;
-    let mut written = 0;
-    let mut end = until(input, used, 10);
-    while end < input.len() {
-        match answer_line(&input[used..end], out, written) {
-            Answered::NoRoom => {
-                return Step {
-                    used,
-                    written,
-                    swallowing: false,
-                    full: true,
-                };
-            }
-            Answered::At(next) => {
-                written = next;
-            }
-        }
+    // No split: what is behind the last newline is no line yet, and where a line finds no room its place is handed back.
+    while let Some(end) = until(input, used, b'\n') {
+        let Ok(()) = answer_line(&input[used..end], page) else {
+            return Err(FullAt { used });
+        };
         used = end + 1;
-        end = until(input, used, 10);
     }
-    Step {
-        used,
-        written,
-        swallowing: false,
-        full: false,
-    }
+    Ok(used)
 }

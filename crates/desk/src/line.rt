@@ -1,61 +1,46 @@
 // One line of input, answered: without its line end, as a request, or as what is wrong with it. A carriage return at its end
 // belongs to the line end. Blank lines and lines that begin with # are passed over.
-ghost use Rattle.std.specs.Prelude.{◌+◌, ◌≤◌, ◌≡◌, length, take};
-ghost use Rattle.text.specs.Bytes.{bytes};
+ghost use Rattle.std.specs.Prelude.{◌≤◌, ◌≡◌, length, IsOk};
 ghost use Rattle.words.specs.Words.{words};
 ghost use Rattle.forms.specs.Says.{ROOM};
 ghost use Rattle.desk.specs.Line.{trimmed, RequestLine, Writes, LineAnswered};
 
 use desk_requests::answer_request;
-use text::{put_byte, put_bytes};
+use text::{Full, Page};
 
-// Where the answer ends, or that the buffer has not room for the longest answer and nothing was written.
-#[derive(Clone, Copy)]
-pub enum Answered {
-    At(usize),
-    NoRoom,
+// A page that has not room for the longest answer is left as it was.
+pub fn answer_line(line: &[u8], page: &mut Page<'_>) -> Result<(), Full>
+    ensures { LineAnswered line.now page.old page.new result }
+{
+    if page.room() < 8192 {
+        return Err(Full);
+    }
+    let request = trimmed(line);
+    if request.len() == 0 {
+        return Ok(());
+    }
+    if request[0] == b'#' {
+        return Ok(());
+    }
+    if 1024 < request.len() {
+        return page.put_bytes(b"bad line: longer than 1024 bytes\n");
+    }
+    put_request(request, page)
 }
 
-#[tactic(auto, using(crate::proofs::Lines::long_line, crate::proofs::Lines::request_line))]
-pub fn answer_line(line: &[u8], out: &mut [u8], at: usize) -> Answered
-    ensures { LineAnswered line.now out.old at out.new result }
+fn trimmed(line: &[u8]) -> &[u8]
+    ensures { result.now ≡ trimmed line.now }
 {
-    if out.len() < at {
-        return Answered::NoRoom;
+    match line.strip_suffix(b"\r") {
+        Some(rest) => rest,
+        None => line,
     }
-    if out.len() - at < 8192 {
-        return Answered::NoRoom;
-    }
-    let end = trimmed_len(line);
-    if end == 0 {
-        return Answered::At(at);
-    }
-    if line[0] == 35 {
-        return Answered::At(at);
-    }
-    if 1024 < end {
-        return Answered::At(put_bytes(b"bad line: longer than 1024 bytes\n", out, at));
-    }
-    Answered::At(put_request(&line[..end], out, at))
 }
 
-fn trimmed_len(line: &[u8]) -> usize
-    ensures { (result ≤ length line.now) × (take result line.now ≡ trimmed line.now) }
+fn put_request(line: &[u8], page: &mut Page<'_>) -> Result<(), Full>
+    requires { ROOM ≤ length page.old.rest }
+    ensures { IsOk result × Writes (RequestLine (words line.now)) page.old page.new }
 {
-    let n = line.len();
-    if n == 0 {
-        return 0;
-    }
-    if line[n - 1] == 13 {
-        return n - 1;
-    }
-    n
-}
-
-fn put_request(line: &[u8], out: &mut [u8], at: usize) -> usize
-    requires { at + ROOM ≤ length out.old }
-    ensures { Writes (RequestLine (words line.now)) out.old at out.new result }
-{
-    let past = answer_request(line, out, at);
-    put_byte(10, out, past)
+    answer_request(line, page)?;
+    page.put_byte(b'\n')
 }

@@ -5,128 +5,102 @@
 mod block;
 mod line;
 
-ghost use Rattle.std.specs.Prelude.{◌+◌, ◌≤◌, length};
+ghost use Rattle.std.specs.Prelude.{◌+◌, ◌≤◌, length, IfSome};
 
-use block::answer_block;
-use line::{Answered, answer_line};
+use block::{Place, answer_block};
+use line::answer_line;
 use std::io::Read;
+use text::Page;
 use words::keep;
 
-// What is left of a block: how far it was used, whether the rest of a line is to be swallowed, and whether the answers
-// could be written.
-#[derive(Clone, Copy)]
-struct Drained {
-    used: usize,
-    swallowing: bool,
-    going: bool,
-}
-
-// What is kept from one read to the next: how many bytes of a line stand at the input's front, whether the rest of a line is
-// to be swallowed, and whether there is more to do.
+// What is kept from one read to the next: how many bytes of a line stand at the input's front, and whether the rest of a line is
+// to be swallowed. They stay in the input, since a read goes on behind them: an `ArrayVec` cannot be read into.
 #[derive(Clone, Copy)]
 struct Held {
     count: usize,
     swallowing: bool,
-    going: bool,
+    ghost inside: { count ≤ 65_536 },
 }
 
 fn main(rt: HostRuntime) {
+    // Fixed memory: there is no heap.
     let mut input = [0; 65536];
     let mut output = [0; 65536];
     run(rt, &mut input, &mut output);
 }
 
-// A proved loop has to end, and nothing says that the input does: so it counts its turns down, from a number that no run
-// uses up.
-fn run(rt: HostRuntime, input: &mut [u8], output: &mut [u8]) {
+// A proved loop has to end, and nothing says that the input does: so it counts its turns, up to a number that no run reaches.
+// The runtime, both buffers and what is held: each function takes another part of these four, so that a struct would say less.
+fn run(rt: HostRuntime, input: &mut [u8; 65536], output: &mut [u8]) {
     let mut held = Held {
         count: 0,
         swallowing: false,
-        going: true,
     };
-    let mut turns = u64::MAX;
-    while turns > 0 {
-        turns -= 1;
-        held = turn(rt, input, output, held);
-        if !held.going {
+    for _ in 0..u64::MAX {
+        let Some(next) = turn(rt, input, output, held) else {
             return;
-        }
-    }
-}
-
-// One read, and the answers to what came; at the end of the input the answer to what is held.
-fn turn(rt: HostRuntime, input: &mut [u8], output: &mut [u8], held: Held) -> Held
-    requires { held.count ≤ length input.old }
-    ensures { result.count ≤ length input.old }
-{
-    let count = held.count;
-    let got = fill(rt, input, count);
-    if got == 0 {
-        if !held.swallowing {
-            finish(rt, &input[..count], output);
-        }
-        return Held {
-            count: 0,
-            swallowing: false,
-            going: false,
         };
-    }
-    let filled = count + got;
-    let drained = drain(rt, &input[..filled], held.swallowing, output);
-    let left = keep(input, drained.used, filled);
-    Held {
-        count: left,
-        swallowing: drained.swallowing,
-        going: drained.going,
+        held = next;
     }
 }
 
-// One read, to the place after what is held. One that fails counts as the end of the input.
-fn fill(rt: HostRuntime, input: &mut [u8], held: usize) -> usize
-    requires { held ≤ length input.old }
-    ensures { held + result ≤ length input.old }
+// One read, and the answers to what came; at the end of the input the answer to what is held, and nothing more to do. Nor is there where
+// the answers cannot be written.
+fn turn(rt: HostRuntime, input: &mut [u8; 65536], output: &mut [u8], held: Held) -> Option<Held> {
+    let Some(got) = fill(rt, input, held) else {
+        if !held.swallowing {
+            finish(rt, &input[..held.count], output);
+        }
+        return None;
+    };
+    let filled = held.count + got;
+    let place = drain(rt, &input[..filled], held.swallowing, output)?;
+    let count = keep(input, place.used, filled);
+    Some(Held {
+        count,
+        swallowing: place.swallowing,
+    })
+}
+
+// One read, to the place after what is held: how many bytes came, if any did. One that fails counts as the end of the input.
+fn fill(rt: HostRuntime, input: &mut [u8; 65536], held: Held) -> Option<usize>
+    ensures { IfSome result (λ got. held.count + got ≤ 65_536) }
 {
     let mut stdin = rt.stdin();
-    match stdin.read(&mut input[held..]) {
-        Ok(got) => got,
-        Err(_) => 0,
-    }
+    let got = stdin.read(&mut input[held.count..]).unwrap_or(0);
+    if got == 0 { None } else { Some(got) }
 }
 
-// Answers every line that ends in the input, and writes each time that the buffer has filled up.
-fn drain(rt: HostRuntime, input: &[u8], swallowing: bool, output: &mut [u8]) -> Drained
-    ensures { result.used ≤ length input.now }
+// Answers every line that ends in the input, and writes each time that the page has filled up. Nothing if the answers cannot be written.
+fn drain(rt: HostRuntime, input: &[u8], swallowing: bool, output: &mut [u8]) -> Option<Place>
+    ensures { IfSome result (λ place. place.used ≤ length input.now) }
 {
-    let mut used = 0;
-    let mut swallow = swallowing;
-    let mut turns = u64::MAX;
-    while turns > 0 {
-        turns -= 1;
-        let step = answer_block(input, used, swallow, output);
-        let written = step.written;
-        used = step.used;
-        swallow = step.swallowing;
-        if rt.write_all(&output[..written]).is_err() {
-            break;
-        }
-        if !step.full {
-            return Drained {
-                used,
-                swallowing: swallow,
-                going: true,
-            };
+    let mut place = Place {
+        used: 0,
+        swallowing,
+    };
+    for _ in 0..u64::MAX {
+        let mut page = Page::new(output);
+        let answered = answer_block(input, place, &mut page);
+        rt.write_all(page.text()).ok()?;
+        match answered {
+            Ok(end) => {
+                return Some(end);
+            }
+            Err(full) => {
+                place = Place {
+                    used: full.used,
+                    swallowing: false,
+                };
+            }
         }
     }
-    Drained {
-        used,
-        swallowing: swallow,
-        going: false,
-    }
+    None
 }
 
 // The last line, which may lack its newline. Nothing comes behind it, so that it is not asked whether it could be written.
 fn finish(rt: HostRuntime, line: &[u8], output: &mut [u8]) {
-    if let Answered::At(end) = answer_line(line, output, 0) {
-        let _ = rt.write_all(&output[..end]);
-    }
+    let mut page = Page::new(output);
+    let _ = answer_line(line, &mut page);
+    let _ = rt.write_all(page.text());
 }

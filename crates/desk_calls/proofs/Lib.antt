@@ -1,4 +1,3 @@
-mod Calling
 mod GemOfImage
 mod RatiosInWords
 pub mod Settled

@@ -1,6 +1,6 @@
 -- The ratios in words of 32 bits: what is refused is refused, and else the table's numbers are the row's, each short enough. Assumes nothing.
 use Prim.Native.Nat.{ℕ}
-use mathlib.Core.Path.{◌≡◌, refl, ap, subst⁻¹, ◌∙◌}
+use mathlib.Core.Path.{◌≡◌, refl, ap, subst, subst⁻¹, ◌∙◌}
 use mathlib.Core.List.{List, ◌++◌, append-nil}
 use lib.ListN.{length, drop, replicate}
 use Rattle.refusals.specs.Told.{answered, InWords}
@@ -16,9 +16,12 @@ module _ (crystal : ℕ) (image : List ℕ) where
   abbrev Row : ℕ → List ℕ → Type 0
   Row r row = Given (RatiosTells crystal image) (replicate 32 0) r row
 
-  pub no_table : {row before : List ℕ} {r : ℕ} → Row r row → (r ≡ 0 → ⊥) → Given (RatiosTells crystal image) before r before
-  no_table (Given.refusal c t) n = Given.refusal c t
-  no_table (Given.answer t) n = absurd (n refl)
+  refused : {row before : List ℕ} {r : ℕ} → Row r row → (r ≡ 0 → ⊥) → Given (RatiosTells crystal image) before r before
+  refused (Given.refusal c t) n = Given.refusal c t
+  refused (Given.answer t) n = absurd (n refl)
+
+  pub no_table : {row before : List ℕ} {r q : ℕ} → Row r row → (r ≡ 0 → ⊥) → r ≡ q → Given (RatiosTells crystal image) before q before
+  no_table {before = before} g n same = subst (λ (k : ℕ). Given (RatiosTells crystal image) before k before) same (refused g n)
 
   -- the row is the table's numbers and nothing behind them
   whole : {t : List (List Ratio)} → TableOrRefusal crystal image (answered t) → table_words t ++ drop (length (table_words t)) (replicate 32 0) ≡ table_words t

@@ -1,5 +1,5 @@
 -- What the desk can be asked, call by call: the numbers of a line go in, and what comes out is what the call tells. The rows of the desk's table
--- (crate desk_requests) cite these in the same order.
+-- (crate desk_requests) cite these.
 use Rattle.std.specs.Prelude.{ℕ, ◌+◌, ◌%◌, ◌^◌, ◌<◌, ◌≡◌, Bool, not, List, [], ◌∷◌, eqb, get_or, drop}
 use Rattle.refusals.specs.Told.{Told, answered, refused}
 use Rattle.registers.specs.Words.{word, GEM_0_CLK_CTRL}
@@ -8,6 +8,9 @@ use Rattle.two_stage.specs.Best.{frequency}
 use Rattle.i2c.specs.Divisors.{clock}
 use Rattle.clocks.specs.declared.Clocks.{Clocks}
 use Rattle.evaluation.specs.Evaluated.{evaluated}
+use Rattle.desk_calls.specs.declared.Call.{Call}
+use Rattle.desk_calls.specs.declared.Call.TheVariants.{TwoStage, TwoStageFrequency, I2c, I2cSpeed, Ttc, PllTarget, PllMul, Uart, CpuInit, DdrInit, Gem, Ratios}
+use Rattle.desk_calls.specs.declared.Call.TheVariants.{Clocks as ClocksCall}
 use Rattle.c_two_stage.specs.Tells.{TwoStageTells}
 use Rattle.c_i2c.specs.Tells.{I2cTells}
 use Rattle.c_ttc.specs.Tells.{TtcTells}
@@ -23,8 +26,8 @@ abbrev pub MOST_WORDS : ℕ
 MOST_WORDS = 32
 
 -- what a call tells of the numbers of a line
-abbrev pub Call : Type 1
-Call = List ℕ → Told (List ℕ) → Type 0
+abbrev pub Telling : Type 1
+Telling = List ℕ → Told (List ℕ) → Type 0
 
 -- a number, and one that says yes or no
 abbrev pub nth : List ℕ → ℕ → ℕ
@@ -43,55 +46,63 @@ abbrev pub Low : List ℕ → Type 0
 Low words = (k : ℕ) → nth words k < 2 ^ 32
 
 -- REF TARGET MAX, and so on: the words of a request as its row has them
-abbrev pub two_stage : Call
+abbrev pub two_stage : Telling
 two_stage n = TwoStageTells (nth n 0) (nth n 1) (nth n 2)
 
-abbrev pub two_stage_frequency : Call
+abbrev pub two_stage_frequency : Telling
 two_stage_frequency n = Answers (frequency (nth n 0) (nth n 1) (nth n 2))
 
-abbrev pub i2c : Call
+abbrev pub i2c : Telling
 i2c n = I2cTells (nth n 0) (is_set (nth n 1))
 
-abbrev pub i2c_speed : Call
+abbrev pub i2c_speed : Telling
 i2c_speed n = Answers (clock (nth n 0) (nth n 1 % 256 + 1) (nth n 2 % 256 + 1))
 
-abbrev pub ttc : Call
+abbrev pub ttc : Telling
 ttc n = TtcTells (nth n 0) (nth n 1)
 
-abbrev pub pll_target : Call
+abbrev pub pll_target : Telling
 pll_target n = PllTargetTells (nth n 0) (nth n 1)
 
-abbrev pub pll_mul : Call
+abbrev pub pll_mul : Telling
 pll_mul n = PllMulTells (nth n 0)
 
-abbrev pub uart : Call
+abbrev pub uart : Telling
 uart n = UartTells (nth n 0) (nth n 1)
 
-abbrev pub cpu_init : Call
+abbrev pub cpu_init : Telling
 cpu_init n = CpuInitTells (nth n 0) (is_set (nth n 1)) (nth n 2)
 
-abbrev pub ddr_init : Call
+abbrev pub ddr_init : Telling
 ddr_init n = DdrInitTells (nth n 0) (nth n 1) (nth n 2)
 
-abbrev pub clocks : Call
+abbrev pub clocks : Telling
 clocks n = ClocksTells (nth n 0) (drop 1 n)
 
-abbrev pub gem : Call
+abbrev pub gem : Telling
 gem n = GemOfImage (is_set (nth n 0)) (word (drop 2 n) (nth n 0 + GEM_0_CLK_CTRL)) (nth n 1) (drop 2 n)
 
-abbrev pub ratios : Call
+abbrev pub ratios : Telling
 ratios n = RatiosTells (nth n 0) (drop 1 n)
 
--- by their places
-abbrev pub calls : List Call
-calls = two_stage ∷ two_stage_frequency ∷ i2c ∷ i2c_speed ∷ ttc ∷ pll_target ∷ pll_mul ∷ uart ∷ cpu_init ∷ ddr_init ∷ clocks ∷ gem ∷ ratios ∷ []
+abbrev pub tells : Call → Telling
+tells TwoStage = two_stage
+tells TwoStageFrequency = two_stage_frequency
+tells I2c = i2c
+tells I2cSpeed = i2c_speed
+tells Ttc = ttc
+tells PllTarget = pll_target
+tells PllMul = pll_mul
+tells Uart = uart
+tells CpuInit = cpu_init
+tells DdrInit = ddr_init
+tells ClocksCall = clocks
+tells Gem = gem
+tells Ratios = ratios
 
--- past the last place nothing is called: no words
+-- what is told where there is nothing to call: no words
 pub data Nothing : Told (List ℕ) → Type 0 where
   nothing_said : Nothing (answered [])
 
-abbrev pub nothing : Call
+abbrev pub nothing : Telling
 nothing n = Nothing
-
-abbrev pub call_at : ℕ → Call
-call_at place = get_or calls place nothing

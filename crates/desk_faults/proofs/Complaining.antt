@@ -1,32 +1,22 @@
--- The words of the code's line are the specification's, and each is short.
+-- What is wrong is short.
 use Prim.Native.Nat.{ℕ, ◌+◌, ◌≤◌}
-use mathlib.Core.Path.{◌≡◌, refl, ap, ◌∙◌}
+use mathlib.Core.Path.{◌≡◌}
 use mathlib.Core.List.{List, [], ◌∷◌}
 use native.Mathlib.Omega.{arith}
 use lib.Dec.{lit≤}
-use lib.ListN.{length, get_or}
+use lib.ListN.{length}
+use Rattle.std.specs.Prelude.{Result, IsOk}
 use Rattle.text.specs.Bytes.{bytes}
+use Rattle.text.specs.Page.{Contents}
 use Rattle.text.specs.Put.{InRoom}
-use Rattle.words.specs.Words.{words}
+use Rattle.text.specs.declared.page.Full.{Full}
 use Rattle.forms.specs.Form.{printed, most}
 use Rattle.forms.specs.Says.{Said}
 use Rattle.forms.proofs.Saying.{within, both, room_after}
 use Rattle.shapes.specs.declared.fields.Fault.{Fault}
-use Rattle.desk_faults.specs.Complaint.{wrong, complaint, place}
+use Rattle.desk_faults.specs.Complaint.{wrong, complaint}
 
-abbrev LINE : List ℕ
-LINE = bytes "missing empty not_a_number too_large not_8_hex_digits one_too_many not_a_name_known_here"
-
-at_place : (f : Fault) → get_or (words LINE) (place f) [] ≡ bytes (wrong f)
-at_place Fault.Missing = refl
-at_place Fault.Empty = refl
-at_place Fault.NotANumber = refl
-at_place Fault.TooLarge = refl
-at_place Fault.NotEightDigits = refl
-at_place Fault.OneTooMany = refl
-at_place Fault.NoSuchName = refl
-
-short : (f : Fault) → most (bytes (wrong f)) ≤ 50
+short : (f : Fault) → most (wrong f) ≤ 50
 short Fault.Missing = lit≤ tt
 short Fault.Empty = lit≤ tt
 short Fault.NotANumber = lit≤ tt
@@ -35,12 +25,11 @@ short Fault.NotEightDigits = lit≤ tt
 short Fault.OneTooMany = lit≤ tt
 short Fault.NoSuchName = lit≤ tt
 
-pub complained : (word : ℕ) (f : Fault) {form before : List ℕ} {k at : ℕ} {middle : List ℕ} {past : ℕ} {after : List ℕ} {next : ℕ} → at + 100 ≤ length before → k ≡ place f → form ≡ get_or (words LINE) k [] →
-    InRoom 29 (Said 29 (printed (bytes "bad_line:_word_#_is_") (word ∷ []))) before at middle past → InRoom (most form) (Said (most form) (printed form (word ∷ []))) middle past after next →
-    Said 100 (complaint word f) before at after next
+pub complained : (word : ℕ) (f : Fault) {form : List ℕ} {before middle after : Contents} (q r : Result Unit Full) → 100 ≤ length before.rest → form ≡ wrong f →
+    InRoom 29 (Said 29 (printed (bytes "bad_line:_word_#_is_") (word ∷ []))) before middle q → InRoom (most form) (Said (most form) (printed form (word ∷ []))) middle after r →
+    IsOk r × Said 100 (complaint word f) before after
 unfolding complaint
-complained word f {form} {k = k} room e is p q =
-    let same : form ≡ bytes (wrong f) = is ∙ ap (λ (n : ℕ). get_or (words LINE) n []) e ∙ at_place f in
-    let head = p.fits (omega arith) in
-    let tail = rw same at q in
-    within (29 + most (bytes (wrong f))) (omega (arith, short f)) (both head (tail.fits (omega (arith, short f, room_after head 50 (omega arith)))))
+complained word f q r room is p t =
+    let head = (p.fits (omega arith)).1 in
+    let tail = (rw is at t).fits (omega (arith, short f, room_after head 50 (omega arith))) in
+    (tail.0, within (29 + most (wrong f)) (omega (arith, short f)) (both head tail.1))

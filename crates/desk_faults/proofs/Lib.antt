@@ -1,1 +1,1 @@
-mod Complaining
+pub mod Complaining

@@ -1,94 +1,81 @@
--- How an access, a row of them and an end come to their text.
-use mathlib.Core.Path.{◌≡◌, refl, sym, ap, ◌∙◌, subst}
+-- How a row of accesses comes to its text.
+use mathlib.Core.Path.{◌≡◌, refl, sym, ap, ◌∙◌}
 use mathlib.Core.List.{List, [], ◌∷◌, ◌++◌, append_assoc, append-nil, map}
-use Prim.Native.Nat.{ℕ, zero, suc, ◌+◌, ◌*◌, ◌≤◌, ◌<◌}
-use native.Mathlib.Numerals.{add-one}
+use Prim.Native.Nat.{ℕ, zero-le, zero, suc, ◌*◌, ◌≤◌}
 use native.Mathlib.Omega.{arith}
-use lib.Dec.{lit≤}
-use lib.ListN.{length, get_or, take, drop, length-map, get_or-append, get_or-map}
-use lib.Seq.{take-suc, take-length}
-use Rattle.text.specs.Bytes.{bytes}
+use Rattle.std.proofs.Math.Seq.{take-append_seam}
+use lib.ListN.{length, take, drop, length-map, length-append}
+use Rattle.text.specs.Page.{Contents}
 use Rattle.text.specs.Put.{Wrote}
-use Rattle.text.proofs.Writing.{as_long, nothing, then}
-use Rattle.forms.specs.Form.{printed}
+use Rattle.text.proofs.Writing.{nothing, then}
 use Rattle.forms.specs.Says.{Said}
-use Rattle.forms.proofs.Saying.{within}
 use Rattle.pll_rows.specs.Sequence.{Access}
-use Rattle.pll_seq.specs.Record.{Rows, over, written}
-use Rattle.desk_pll_seq.specs.Printed.{access, accesses, end_form, ended, record_at, firsts}
+use Rattle.pll_seq.specs.Record.{Rows, number_of, kind_of, over, written}
+use Rattle.desk_pll_seq.specs.Printed.{access, accesses, listed, firsts}
 
--- ---- an access
-module _ (number value : ℕ) {before : List ℕ} {at : ℕ} {after : List ℕ} {next : ℕ} where
-  pub a_read : {kind : ℕ} → kind ≡ 0 → Said 23 (printed (bytes "r # $; ") (number ∷ value ∷ [])) before at after next → Said 23 (access (record { kind = kind; number = number; value = value })) before at after next
-  unfolding access
-  a_read e s = rw e s
-
-  pub a_write : (kind : ℕ) → (kind ≡ 0 → ⊥) → Said 23 (printed (bytes "w # $; ") (number ∷ value ∷ [])) before at after next → Said 23 (access (record { kind = kind; number = number; value = value })) before at after next
-  unfolding access
-  a_write zero n s = absurd (n refl)
-  a_write (suc kind) n s = s
-
--- ---- a row of them
+-- ---- a row of accesses
 accesses_last : (list : List Access) (a : Access) → accesses (list ++ (a ∷ [])) ≡ accesses list ++ access a
 accesses_last [] a = append-nil (access a)
 accesses_last (b ∷ list) a = ap (λ (t : List ℕ). access b ++ t) (accesses_last list a) ∙ sym (append_assoc (access b) (accesses list) (access a))
 
--- after i of n accesses
-pub record Logged (n : ℕ) (r : Rows) (before : List ℕ) (at : ℕ) (out : List ℕ) (to i : ℕ) : Type 0 where
-  pub bound : i ≤ n
-  pub room : at + 23 * n ≤ length before
-  pub wrote : Wrote (accesses (firsts i r)) before at out to
-  pub within : to ≤ at + 23 * i
+-- an access's kind, as the code reads it, is printed as the number that it was read from
+pub same_access : (kind number value : ℕ) →
+    access (record { kind = number_of (kind_of kind); number = number; value = value }) ≡ access (record { kind = kind; number = number; value = value })
+unfolding access
+same_access zero number value = refl
+same_access (suc kind) number value = refl
 
-pub none : {n : ℕ} {r : Rows} {before : List ℕ} {at : ℕ} → at + 23 * n ≤ length before → Logged n r before at before at 0
-none {before = before} {at} h = record { bound = omega arith; room = h; wrote = nothing before at (omega arith); within = omega arith }
+-- some are written, and others are left
+pub record Logged (all left : List Access) (before page : Contents) : Type 0 where
+  pub done : List Access
+  pub split : all ≡ done ++ left
+  pub room : 23 * length all ≤ length before.rest
+  pub wrote : Wrote (accesses done) before page
+  pub within : length (accesses done) ≤ 23 * length done
 
-module _ {n : ℕ} {r : Rows} {before : List ℕ} {at : ℕ} {out : List ℕ} {to i : ℕ} (l : Logged n r before at out to i) where
-  pub room_for_one : i < n → to + 23 ≤ length out
-  room_for_one h = omega (arith, l.room, l.within, as_long l.wrote)
+pub none : {all : List Access} {page : Contents} → 23 * length all ≤ length page.rest → Logged all all page page
+none {page = page} h = record { done = []; split = refl; room = h; wrote = nothing page; within = omega arith }
 
-  pub one_more : {after : List ℕ} {end : ℕ} → i < n → Said 23 (access (record_at r i)) out to after end → Logged n r before at after end (i + 1)
-  one_more {after} {end} h s =
+module _ {all left : List Access} {before page : Contents} (l : Logged all left before page) where
+  pub room_for_one : {a : Access} {more : List Access} → left ≡ a ∷ more → 23 ≤ length page.rest
+  room_for_one e = omega (arith, l.room, l.within, l.wrote.inside, ap length l.split, ap length e, length-append l.done left)
+
+  pub one_more : {a : Access} {more : List Access} {after : Contents} → left ≡ a ∷ more → Said 23 (access a) page after → Logged all more before after
+  one_more {a} {more} e s =
+      let longer : accesses (l.done ++ (a ∷ [])) ≡ accesses l.done ++ access a = accesses_last l.done a in
       record {
-        bound = omega arith;
+        done = l.done ++ (a ∷ []);
+        split = l.split ∙ ap (λ (t : List Access). l.done ++ t) e ∙ sym (append_assoc l.done (a ∷ []) more);
         room = l.room;
-        wrote = rw (add-one, accesses_last) (then l.wrote s.wrote);
-        within = omega (arith, l.within, s.within);
+        wrote = rw longer (then l.wrote s.wrote);
+        within = omega (arith, l.within, s.within, length-append l.done (a ∷ []), ap length longer, length-append (accesses l.done) (access a));
       }
 
-  pub all_said : n ≤ i → Said (23 * n) (accesses (firsts n r)) before at out to
-  all_said h = record { wrote = subst (λ (m : ℕ). Wrote (accesses (firsts m r)) before at out to) same l.wrote; within = omega (arith, l.within) }
+  pub all_said : left ≡ [] → Said (23 * length all) (accesses all) before page
+  all_said e = rw same (record { wrote = l.wrote; within = l.within })
     where
-      same : i ≡ n
-      same = omega (arith, l.bound)
-
--- ---- the end
-pub end_as : {end : ℕ} (e m : ℕ) {before : List ℕ} {at : ℕ} {after : List ℕ} {next : ℕ} → end ≡ e → m ≤ 20 → Said m (printed (end_form e) (11 ∷ [])) before at after next → Said 20 (ended end) before at after next
-unfolding ended
-end_as e m q h s = rw q (within m h s)
-
-pub end_other : (end : ℕ) {before : List ℕ} {at : ℕ} {after : List ℕ} {next : ℕ} → (end ≡ 0 → ⊥) → (end ≡ 1 → ⊥) → Said 7 (printed (bytes "starved") (11 ∷ [])) before at after next → Said 20 (ended end) before at after next
-unfolding ended
-end_other zero n m s = absurd (n refl)
-end_other (suc zero) n m s = absurd (m refl)
-end_other (suc (suc end)) n m s = within 7 (lit≤ tt) s
+      same : all ≡ l.done
+      same = l.split ∙ ap (λ (t : List Access). l.done ++ t) e ∙ append-nil l.done
 
 -- ---- what a run leaves in its rows, read back, is the run's own list
-nowhere : Access
-nowhere = record { kind = 0; number = 0; value = 0 }
+module _ (list : List Access) (f : Access → ℕ) (row : List ℕ) where
+  front : take (length list) (over (map f list) row) ≡ map f list
+  front =
+      ap (λ (n : ℕ). take n (over (map f list) row)) (sym (length-map list f))
+      ∙ take-append_seam (map f list) (drop (length (map f list)) row)
 
-module _ (list : List Access) where
-  part_at : (f : Access → ℕ) (row : List ℕ) (i : ℕ) → i < length list → f nowhere ≡ 0 → get_or (over (map f list) row) i 0 ≡ f (get_or list i nowhere)
-  part_at f row i h z =
-      get_or-append (map f list) (drop (length (map f list)) row) 0 i (omega (arith, length-map list f))
-      ∙ ap (get_or (map f list) i) (sym z)
-      ∙ get_or-map f list i nowhere
+parts : (list : List Access) →
+    listed (map (λ (a : Access). a.kind) list) (map (λ (a : Access). a.number) list) (map (λ (a : Access). a.value) list) ≡ list
+parts [] = refl
+parts (a ∷ list) = ap (λ (l : List Access). a ∷ l) (parts list)
 
-  firsts_are : (r : Rows) (i : ℕ) → i ≤ length list → firsts i (written list r) ≡ take i list
-  unfolding nowhere
-  firsts_are r zero h = refl
-  firsts_are r (suc i) h =
-      rw (take-suc list i nowhere h, firsts_are r i (omega arith), part_at (λ (a : Access). a.kind) r.kinds i h refl, part_at (λ (a : Access). a.number) r.numbers i h refl, part_at (λ (a : Access). a.value) r.values i h refl)
+pub at_most_first : (kinds numbers values : List ℕ) → length (listed kinds numbers values) ≤ length kinds
+at_most_first [] numbers values = zero-le
+at_most_first (k ∷ kinds) [] values = zero-le
+at_most_first (k ∷ kinds) (n ∷ numbers) [] = zero-le
+at_most_first (k ∷ kinds) (n ∷ numbers) (v ∷ values) = omega (arith, at_most_first kinds numbers values)
 
-  pub read_back : (r : Rows) → firsts (length list) (written list r) ≡ list
-  read_back r = firsts_are r (length list) (omega arith) ∙ take-length list
+pub read_back : (list : List Access) (r : Rows) → firsts (length list) (written list r) ≡ list
+read_back list r =
+    rw (front list (λ (a : Access). a.kind) r.kinds, front list (λ (a : Access). a.number) r.numbers, front list (λ (a : Access). a.value) r.values)
+    (parts list)

@@ -1,6 +1,6 @@
 -- A run of the sequence in print: `r 0 0001a008; w 0 ..; locked`, each access followed by `; ` and then the end; the numbers are those of
 -- the image's words. So a run that the host starves at once is the word `starved` alone.
-use Rattle.std.specs.Prelude.{ℕ, zero, suc, List, [], ◌∷◌, ◌++◌, get_or}
+use Rattle.std.specs.Prelude.{ℕ, zero, suc, List, [], ◌∷◌, ◌++◌, take}
 use Rattle.refusals.specs.Number.{LOCK_TIMEOUT}
 use Rattle.text.specs.Bytes.{bytes}
 use Rattle.forms.specs.Form.{printed}
@@ -29,10 +29,11 @@ end_form (suc (suc n)) = bytes "starved"
 unfoldable pub ended : ℕ → List ℕ
 ended end = printed (end_form end) (LOCK_TIMEOUT ∷ [])
 
--- ---- the same of what the code has: the first n records of three rows
-abbrev pub record_at : Rows → ℕ → Access
-record_at r i = record { kind = get_or r.kinds i 0; number = get_or r.numbers i 0; value = get_or r.values i 0 }
+-- ---- the same of what the code has: the records of three rows, and the first n of them
+abbrev pub listed : List ℕ → List ℕ → List ℕ → List Access
+listed (kind ∷ kinds) (number ∷ numbers) (value ∷ values) =
+    record { kind = kind; number = number; value = value } ∷ listed kinds numbers values
+listed kinds numbers values = []
 
 abbrev pub firsts : ℕ → Rows → List Access
-firsts zero r = []
-firsts (suc n) r = firsts n r ++ (record_at r n ∷ [])
+firsts n r = listed (take n r.kinds) (take n r.numbers) (take n r.values)

@@ -3,72 +3,69 @@
 
 mod request;
 
-ghost use Rattle.std.specs.Prelude.{◌++◌, ◌+◌, ◌*◌, ◌≤◌, length};
+ghost use Rattle.std.specs.Prelude.{◌++◌, ◌*◌, ◌≤◌, IsOk, length};
 ghost use Rattle.forms.specs.Says.{Said};
-ghost use Rattle.pll_seq.specs.Record.{rows, Room};
-ghost use Rattle.desk_pll_seq.specs.Printed.{access, accesses, ended, firsts};
+ghost use Rattle.pll_seq.specs.Record.{rows, number_of, ending, Room};
+ghost use Rattle.c_pll_seq.specs.Ran.{end_number};
+ghost use Rattle.desk_pll_seq.specs.Printed.{access, accesses, ended, listed, firsts};
 
 use forms::put_form;
+use pll_seq::{End, Kind, Ran};
+use refusals::Refusal;
 pub use request::put_pll_seq;
+use text::{Full, Page};
 
-// The first n accesses of three rows, and the end. The rows are those of the run, which has filled them.
+// The accesses of a run, and its end. The rows are those of the run, which has filled them.
 fn put_run(
-    n: usize,
-    end: u32,
+    ran: Ran,
     kinds: &[u32],
     numbers: &[u32],
     values: &[u32],
-    out: &mut [u8],
-    at: usize,
-) -> usize
-    requires room { Room n (rows kinds.now numbers.now values.now) }
-    requires n_bound { (n ≤ 166) × (at + 4000 ≤ length out.old) }
-    ensures { Said 4000 (accesses (firsts n (rows kinds.now numbers.now values.now)) ++ ended end) out.old at out.new result }
+    page: &mut Page<'_>,
+) -> Result<(), Full>
+    requires room { Room ran.accesses (rows kinds.now numbers.now values.now) }
+    requires n_bound { (ran.accesses ≤ 166) × (4000 ≤ length page.old.rest) }
+    ensures { IsOk result × Said 4000 (accesses (firsts ran.accesses (rows kinds.now numbers.now values.now)) ++ ended (end_number (ending ran.end))) page.old page.new }
 {
-    let past = put_accesses(n, kinds, numbers, values, out, at);
-    put_end(end, out, past)
+    let n = ran.accesses;
+    put_accesses(&kinds[..n], &numbers[..n], &values[..n], page)?;
+    put_end(ran.end, page)
 }
 
 fn put_accesses(
-    n: usize,
     kinds: &[u32],
     numbers: &[u32],
     values: &[u32],
-    out: &mut [u8],
-    at: usize,
-) -> usize
-    requires room { Room n (rows kinds.now numbers.now values.now) }
-    requires n_in_bounds { at + 23 * n ≤ length out.old }
-    ensures { Said (23 * n) (accesses (firsts n (rows kinds.now numbers.now values.now))) out.old at out.new result }
+    page: &mut Page<'_>,
+) -> Result<(), Full>
+    requires { 23 * length (listed kinds.now numbers.now values.now) ≤ length page.old.rest }
+    ensures { IsOk result × Said (23 * length (listed kinds.now numbers.now values.now)) (accesses (listed kinds.now numbers.now values.now)) page.old page.new }
 {
-    let mut to = at;
-    let mut i = 0;
-    while i < n {
-        to = put_access(kinds[i], numbers[i], values[i], out, to);
-        i += 1;
+    for ((kind, number), value) in kinds.iter().zip(numbers).zip(values) {
+        put_access(Kind::from(*kind), *number, *value, page)?;
     }
-    to
+    Ok(())
 }
 
-fn put_access(kind: u32, number: u32, value: u32, out: &mut [u8], at: usize) -> usize
-    requires { at + 23 ≤ length out.old }
-    ensures { Said 23 (access (record { kind = kind; number = number; value = value })) out.old at out.new result }
+fn put_access(kind: Kind, number: u32, value: u32, page: &mut Page<'_>) -> Result<(), Full>
+    requires { 23 ≤ length page.old.rest }
+    ensures { IsOk result × Said 23 (access (record { kind = number_of kind; number = number; value = value })) page.old page.new }
 {
     let words = [number, value];
     match kind {
-        0 => put_form(b"r # $; ", &words, out, at),
-        _ => put_form(b"w # $; ", &words, out, at),
+        Kind::Read => put_form(b"r # $; ", &words, page),
+        Kind::Write => put_form(b"w # $; ", &words, page),
     }
 }
 
-fn put_end(end: u32, out: &mut [u8], at: usize) -> usize
-    requires { at + 20 ≤ length out.old }
-    ensures { Said 20 (ended end) out.old at out.new result }
+fn put_end(end: End, page: &mut Page<'_>) -> Result<(), Full>
+    requires { 20 ≤ length page.old.rest }
+    ensures { IsOk result × Said 20 (ended (end_number (ending end))) page.old page.new }
 {
-    let number = [11];
+    let number = [Refusal::LockTimeout.number()];
     match end {
-        0 => put_form(b"locked", &number, out, at),
-        1 => put_form(b"refused #", &number, out, at),
-        _ => put_form(b"starved", &number, out, at),
+        End::Locked => put_form(b"locked", &number, page),
+        End::TimedOut => put_form(b"refused #", &number, page),
+        End::Starved => put_form(b"starved", &number, page),
     }
 }

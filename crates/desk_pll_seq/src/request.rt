@@ -1,25 +1,27 @@
 // The request: the numbers of its line as a plan and the words that a host would return.
-ghost use Rattle.std.specs.Prelude.{◌≡◌, ◌+◌, ◌≤◌, length};
+ghost use Rattle.std.specs.Prelude.{◌≡◌, ◌≤◌, IsOk, length};
 ghost use Rattle.text.specs.Put.{InRoom};
 ghost use Rattle.forms.specs.Says.{ROOM, Said};
 ghost use Rattle.desk_pll_seq.specs.Request.{plan_of, host_words, run_text};
 
 use crate::put_run;
-use c_pll_seq::pll_seq;
+use c_pll_seq::run_of;
 use c_pll_start::Plan;
 use forms::put_form;
+use refusals::Refusal;
 use registers::word;
-use text::room;
+use text::{Full, Page};
 
-pub fn put_pll_seq(n: &[u32], out: &mut [u8], at: usize) -> usize
-    ensures { InRoom ROOM (Said 4000 (run_text (plan_of n.now) (host_words n.now))) out.old at out.new result }
+pub fn put_pll_seq(n: &[u32], page: &mut Page<'_>) -> Result<(), Full>
+    ensures { InRoom ROOM (Said 4000 (run_text (plan_of n.now) (host_words n.now))) page.old page.new result }
 {
-    if room(out.len(), at) < 8192 {
-        return out.len() + 1;
+    if page.room() < 8192 {
+        return Err(Full);
     }
-    put_plan(plan_of(n), host_words(n), out, at)
+    put_plan(plan_of(n), host_words(n), page)
 }
 
+// As the plan's definition has it: a number as far as its bits go.
 fn plan_of(n: &[u32]) -> Plan
     ensures { result ≡ plan_of n.now }
 {
@@ -34,33 +36,25 @@ fn plan_of(n: &[u32]) -> Plan
     }
 }
 
+// No more than a line has.
 fn host_words(n: &[u32]) -> &[u32]
     ensures { result.now ≡ host_words n.now }
 {
-    if n.len() < 7 {
-        return &n[n.len()..];
-    }
-    if n.len() < 167 {
-        return &n[7..];
-    }
-    &n[7..167]
+    let words = n.get(7..).unwrap_or(&[]);
+    &words[..words.len().min(160)]
 }
 
-// A read a word and six writes at most: the rows have room for the run.
-fn put_plan(plan: Plan, reads: &[u32], out: &mut [u8], at: usize) -> usize
-    requires { (length reads.now ≤ 160) × (at + 4000 ≤ length out.old) }
-    ensures { Said 4000 (run_text plan reads.now) out.old at out.new result }
+// A read a word and six writes at most: the rows have room for the run. They are fixed arrays, since there is no heap, and three, as the run
+// wants them.
+fn put_plan(plan: Plan, reads: &[u32], page: &mut Page<'_>) -> Result<(), Full>
+    requires { (length reads.now ≤ 160) × (4000 ≤ length page.old.rest) }
+    ensures { IsOk result × Said 4000 (run_text plan reads.now) page.old page.new }
 {
     let mut kinds = [0u32; 166];
     let mut numbers = [0u32; 166];
     let mut values = [0u32; 166];
-    let ran = pll_seq(plan, reads, &mut kinds, &mut numbers, &mut values);
-    let refusal = ran.refusal;
-    if refusal == 0 {
-        let count = ran.accesses;
-        let end = ran.end;
-        put_run(count, end, &kinds, &numbers, &values, out, at)
-    } else {
-        put_form(b"refused #", &[refusal], out, at)
+    match run_of(plan, reads, &mut kinds, &mut numbers, &mut values) {
+        Ok(ran) => put_run(ran, &kinds, &numbers, &values, page),
+        Err(e) => put_form(b"refused #", &[Refusal::from(e).number()], page),
     }
 }

@@ -1,4 +1,6 @@
 mod Asking
+mod Finding
 mod Places
+mod Rows
 pub mod Settled
 mod Speaking

@@ -21,14 +21,18 @@ use Rattle.c_clock_setup.proofs.Laws as c_clock_setup
 use Rattle.desk_calls.specs.Calls.{nth, is_set}
 use Rattle.desk_calls.proofs.Settled.{one_number, one_gem, one_nothing}
 use Rattle.desk_uart_list.proofs.Listing as uart_list
-use Rattle.desk_requests.specs.Row.{Request, CallRow, Spoken, refusal, request as request_of}
+use Rattle.forms.specs.Told.{refusal_text}
+use Rattle.desk_requests.specs.Row.{Request, CallRow, Spoken, request as request_of}
 use Rattle.desk_requests.specs.Table.{row, called, no_call}
+use Rattle.std.specs.Prelude.{Result, Ok, Err}
+use Rattle.shapes.specs.declared.BadWord.{BadWord}
+use Rattle.desk_faults.specs.Complaint.{complaint}
 use Rattle.desk_requests.specs.Answer.{read, Asked, told, at_fault, Answer, request, no_request}
 use Rattle.desk_requests.proofs.Places.{call_row, same_row}
 
 abbrev in_print : List ℕ → Told (List ℕ) → List ℕ
 in_print form (answered words) = printed form words
-in_print form (refused n carried) = refusal n carried
+in_print form (refused n carried) = refusal_text n carried
 
 one_text : (form : List ℕ) {Tells : Told (List ℕ) → Type 0} → Single Tells → {s t : List ℕ} → Spoken form Tells s → Spoken form Tells t → s ≡ t
 one_text form one (Spoken.answer x) (Spoken.answer y) = ap (in_print form) (one _ _ x y)
@@ -78,11 +82,16 @@ one_says n h s t (suc zero) x y = x ∙ sym y
 one_says n h s t (suc (suc zero)) x y = x ∙ sym y
 one_says n h s t (suc (suc (suc k))) x y = one_call (row (suc (suc (suc k)))) k n h (same_row k) x y
 
+-- what is said of how reading ended
+abbrev complained : Result (Unit {0}) BadWord → List ℕ
+complained (Ok _) = []
+complained (Err bad) = complaint bad.word bad.fault
+
 one_asked : (place : ℕ) (rest : List (List ℕ)) {s t : List ℕ} → Asked (row place) rest s → Asked (row place) rest t → s ≡ t
 one_asked place rest (told e x) (told d y) = one_says (read (row place) rest).numbers (numbers_below (bytes (row place).shape) MOST 2 rest) _ _ place x y
 one_asked place rest (told e x) (at_fault d) = never (cc)
 one_asked place rest (at_fault e) (told d y) = never (cc)
-one_asked place rest (at_fault e) (at_fault d) = cc
+one_asked place rest (at_fault e) (at_fault d) = ap complained (sym e ∙ d)
 
 pub one_answer : (line : List (List ℕ)) (s t : List ℕ) → Answer line s → Answer line t → s ≡ t
 one_answer line s t (request {place = i} e x) (request {place = j} d y) =

@@ -1,10 +1,9 @@
 -- The answer to a line, as the table has it.
-use Rattle.std.specs.Prelude.{ℕ, ◌≡◌, List, drop}
+use Rattle.std.specs.Prelude.{ℕ, ◌≡◌, List, drop, Ok, Err}
 use Rattle.text.specs.Bytes.{bytes}
 use Rattle.shapes.specs.Shape.{MOST, Parsed, all, bad, parse}
 use Rattle.shapes.specs.Named.{named_of}
 use Rattle.shapes.specs.declared.fields.Fault.{Fault}
-use Rattle.shapes.specs.declared.Named.TheVariants as Named
 use Rattle.desk_faults.specs.Complaint.{complaint}
 use Rattle.desk_requests.specs.Row.{Request}
 use Rattle.desk_requests.specs.Table.{row, names}
@@ -19,5 +18,5 @@ pub data Asked (r : Request) (rest : List (List ℕ)) : List ℕ → Type 0 wher
 
 -- by the line's first word; `line` is its words
 pub data Answer (line : List (List ℕ)) : List ℕ → Type 0 where
-  request : {place next : ℕ} {text : List ℕ} → named_of names line ≡ Named.Name place next → Asked (row place) (drop 1 line) text → Answer line text
-  no_request : {f : Fault} → named_of names line ≡ Named.Bad f → Answer line (complaint 1 f)
+  request : {place : ℕ} {text : List ℕ} → named_of names line ≡ Ok place → Asked (row place) (drop 1 line) text → Answer line text
+  no_request : {f : Fault} → named_of names line ≡ Err f → Answer line (complaint 1 f)

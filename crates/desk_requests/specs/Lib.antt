@@ -1,3 +1,4 @@
 pub mod Answer
+pub mod Found
 pub mod Row
 pub mod Table

@@ -1,10 +1,11 @@
 -- A request is a row of the desk's table: its name, the shape of its words, what it says, its line of help.
-use Rattle.std.specs.Prelude.{ℕ, List, [], ◌∷◌}
+use Rattle.std.specs.Prelude.{ℕ, List}
 use Prim.Native.String.{String}
 use Rattle.refusals.specs.Told.{Told, answered, refused}
 use Rattle.text.specs.Bytes.{bytes}
 use Rattle.forms.specs.Form.{printed}
-use Rattle.desk_calls.specs.Calls.{Call}
+use Rattle.forms.specs.Told.{refusal_text}
+use Rattle.desk_calls.specs.Calls.{Telling}
 
 -- `says` is about the numbers that were read by the shape, and the text of the answer
 pub record Request : Type 1 where
@@ -13,25 +14,20 @@ pub record Request : Type 1 where
   pub says : List ℕ → List ℕ → Type 0
   pub help : String
 
--- a refusal in print, and behind it what it carries
-abbrev pub refusal : ℕ → List ℕ → List ℕ
-refusal n [] = printed (bytes "refused #") (n ∷ [])
-refusal n (c ∷ cs) = printed (bytes "refused # #") (n ∷ c ∷ [])
-
 -- what a call tells, in print: its words by the row's form, or the refusal
 pub data Spoken (form : List ℕ) (Tells : Told (List ℕ) → Type 0) : List ℕ → Type 0 where
   answer : {words : List ℕ} → Tells (answered words) → Spoken form Tells (printed form words)
-  refuses : {n : ℕ} {carried : List ℕ} → Tells (refused n carried) → Spoken form Tells (refusal n carried)
+  refuses : {n : ℕ} {carried : List ℕ} → Tells (refused n carried) → Spoken form Tells (refusal_text n carried)
 
 -- A request that is a call: how its words are printed is a form, in which `_` is a space.
 pub record CallRow : Type 1 where
   pub name : String
   pub shape : String
   pub form : String
-  pub tells : Call
+  pub tells : Telling
   pub help : String
 
-abbrev pub call : String → String → String → Call → String → CallRow
+abbrev pub call : String → String → String → Telling → String → CallRow
 call name shape form tells help = record { name = name; shape = shape; form = form; tells = tells; help = help }
 
 abbrev pub request : CallRow → Request

@@ -7,7 +7,7 @@ use Rattle.desk_uart_list.specs.List.{Listed}
 use Rattle.desk_pll_seq.specs.Request.{plan_of, host_words, run_text}
 use Rattle.desk_requests.specs.Row.{Request, CallRow, call, request}
 
--- the requests that are calls, in the order of crate desk_calls
+-- the requests that are calls
 abbrev pub called : List CallRow
 called =
     call "two-stage" "nnn" "#_#" two_stage "two-stage REF TARGET MAX gives D0 D1"
@@ -56,12 +56,9 @@ no_call = call "" "" "" nothing ""
 unfoldable pub row : ℕ → Request
 row place = get_or requests place (request no_call)
 
--- its columns, which the code has as lines of words
+-- its columns
 unfoldable pub names : List (List ℕ)
 names = map (λ (r : Request). bytes r.name) requests
 
 unfoldable pub shapes : List (List ℕ)
 shapes = map (λ (r : Request). bytes r.shape) requests
-
-unfoldable pub forms : List (List ℕ)
-forms = map (λ (r : CallRow). bytes r.form) called

@@ -1,76 +1,67 @@
-// One request, answered. The table of requests stands in specs/Table.antt, and the code follows it by place: a name's place is found, the
-// words are read by the shape at that place, and what is told of their numbers is printed by the form there.
+// One request, answered: its row of the table is found by its name, its words are read by the row's shape, and what is told of their numbers
+// is printed by the row's form.
 #![tactic(auto)]
 
-ghost use Rattle.std.specs.Prelude.{◌+◌, ◌≤◌, length};
-ghost use Rattle.words.specs.Words.{words, words_from};
+mod table;
+
+ghost use Rattle.std.specs.Prelude.{◌≡◌, ◌≤◌, length, IsOk};
+ghost use Rattle.words.specs.Words.{words};
 ghost use Rattle.text.specs.Put.{InRoom};
 ghost use Rattle.forms.specs.Says.{ROOM, Says};
-ghost use Rattle.desk_requests.specs.Table.{row};
-ghost use Rattle.desk_requests.specs.Answer.{Asked, Answer};
+ghost use Rattle.desk_requests.specs.Answer.{Answer};
+ghost use Rattle.desk_requests.specs.Found.{Short, says_of, Understood};
 
-use desk_calls::call;
+use arrayvec::ArrayVec;
 use desk_faults::put_fault;
 use desk_pll_seq::put_pll_seq;
 use desk_uart_list::put_uart_list;
 use forms::put_told;
 use registers::word;
-use shapes::{Named, Read, read_name, read_shape};
-use text::{put_bytes, room};
-use words::nth_word;
+use shapes::{BadWord, read_shape};
+use table::{Saying, find};
+use text::{Full, Page};
+use words::first_word;
 
-pub fn answer_request(line: &[u8], out: &mut [u8], at: usize) -> usize
-    ensures { InRoom ROOM (Says (Answer (words line.now))) out.old at out.new result }
+pub fn answer_request(line: &[u8], page: &mut Page<'_>) -> Result<(), Full>
+    ensures { InRoom ROOM (Says (Answer (words line.now))) page.old page.new result }
 {
-    if room(out.len(), at) < 8192 {
-        return out.len() + 1;
+    if page.room() < 8192 {
+        return Err(Full);
     }
-    match read_name(
-        line,
-        b"uart-list pll-seq help two-stage two-stage-frequency i2c i2c-speed ttc pll-target pll-mul uart cpu-init ddr-init clocks gem ratios",
-    ) {
-        Named::Bad(fault) => put_fault(1, fault, out, at),
-        Named::Name(place, next) => answer_named(place, line, next, out, at),
-    }
-}
-
-// The words after the name, which begin at `from`.
-fn answer_named(place: usize, line: &[u8], from: usize, out: &mut [u8], at: usize) -> usize
-    requires { at + ROOM ≤ length out.old }
-    ensures { Says (Asked (row place) (words_from line.now from)) out.old at out.new result }
-{
-    let mut numbers = [0u32; 160];
-    let shapes = b"nn pfbbbhhw  nnn nnn ns nbb nn nn n nn nfn nnn nw fnw nw";
-    match read_shape(nth_word(shapes, place), line, from, &mut numbers) {
-        Read::Bad(word, fault) => put_fault(word, fault, out, at),
-        Read::Numbers(count) => answer_numbers(place, &numbers[..count], out, at),
+    let mut numbers = ArrayVec::new();
+    match read_request(line, &mut numbers) {
+        Ok(says) => says.put(numbers.as_slice(), page),
+        Err(bad) => put_fault(bad, page),
     }
 }
 
-fn answer_numbers(place: usize, n: &[u32], out: &mut [u8], at: usize) -> usize
-    requires { at + ROOM ≤ length out.old }
-    ensures { Says ((row place).says n.now) out.old at out.new result }
+// What a line asks to be said, and the numbers to say it of; or the word that is at fault.
+fn read_request(line: &[u8], numbers: &mut ArrayVec<u32, 160>) -> Result<Saying, BadWord>
+    ensures { Understood (words line.now) numbers.new.items result }
 {
-    match place {
-        0 => put_uart_list(word(n, 0), word(n, 1), out, at),
-        1 => put_pll_seq(n, out, at),
-        2 => put_bytes(
-            b"two-stage REF TARGET MAX gives D0 D1; two-stage-frequency REF D0 D1 gives HZ; i2c REF normal|fast gives A B; i2c-speed REF A B gives HZ; ttc REF FREQ gives none|PRESCALER TICKS; pll-target CRYSTAL TARGET gives FDIV CP RES LOCK; pll-mul MUL gives FDIV CP RES LOCK; uart REF BAUD gives CD BDIV ERROR; cpu-init PLL RATIO DIV gives 1X 2X 3X2X 6X4X; ddr-init REF DIV3X DIV2X gives 3X 2X; clocks CRYSTAL W0 .. W49 gives ok and ARM_PLL IO_PLL DDR_PLL CPU_REF RATIO 1X 2X 3X2X 6X4X DDR_REF DDR3X DDR2X IO_REF SMC QSPI SDIO UART SPI CAN PCAP TRACE|emio FPGA0 FPGA1 FPGA2 FPGA3; gem 0|1 CRYSTAL W0 .. W49 gives HZ; ratios CRYSTAL W0 .. W49 gives N:D of FPGA0 to FPGA0 .. FPGA3, then of FPGA1, FPGA2 and FPGA3; uart-list REF BAUD gives the count and CD:BDIV:ERROR for each pair; pll-seq arm|ddr|io BYPASSED FDIV CP RES LOCK LIMIT R1 R2 .. gives the accesses and the end; help gives this line",
-            out,
-            at,
-        ),
-        _ => answer_call(place - 3, n, out, at),
-    }
+    let (name, rest) = first_word(line);
+    let row = find(name)?;
+    read_shape(row.shape, rest, numbers)?;
+    Ok(row.says)
 }
 
-// What the call at a place tells, printed by the form at that place. Calls are counted from the fourth row on.
-fn answer_call(place: usize, n: &[u32], out: &mut [u8], at: usize) -> usize
-    requires { at + ROOM ≤ length out.old }
-    ensures { Says ((row (3 + place)).says n.now) out.old at out.new result }
-{
-    let mut words = [0u32; 32];
-    let told = call(place, n, &mut words);
-    let forms =
-        b"#_# # #_# # ?_# #_#_#_# #_#_#_# #_#_$ #_#_#_# #_# ok_#_#_#_#_#_#_#_#_#_#_#_#_#_#_#_#_#_#_#_#_~_#_#_#_# # #:#_#:#_#:#_#:#_#:#_#:#_#:#_#:#_#:#_#:#_#:#_#:#_#:#_#:#_#:#_#:#";
-    put_told(nth_word(forms, place), told, &words, out, at)
+impl Saying {
+    fn put(self, n: &[u32], page: &mut Page<'_>) -> Result<(), Full>
+        requires { Short self × (ROOM ≤ length page.old.rest) }
+        ensures { IsOk result × Says (says_of self n.now) page.old page.new }
+    {
+        match self {
+            Saying::UartList => put_uart_list(word(n, 0), word(n, 1), page),
+            Saying::PllSeq => put_pll_seq(n, page),
+            Saying::Help => page.put_bytes(
+                b"two-stage REF TARGET MAX gives D0 D1; two-stage-frequency REF D0 D1 gives HZ; i2c REF normal|fast gives A B; i2c-speed REF A B gives HZ; ttc REF FREQ gives none|PRESCALER TICKS; pll-target CRYSTAL TARGET gives FDIV CP RES LOCK; pll-mul MUL gives FDIV CP RES LOCK; uart REF BAUD gives CD BDIV ERROR; cpu-init PLL RATIO DIV gives 1X 2X 3X2X 6X4X; ddr-init REF DIV3X DIV2X gives 3X 2X; clocks CRYSTAL W0 .. W49 gives ok and ARM_PLL IO_PLL DDR_PLL CPU_REF RATIO 1X 2X 3X2X 6X4X DDR_REF DDR3X DDR2X IO_REF SMC QSPI SDIO UART SPI CAN PCAP TRACE|emio FPGA0 FPGA1 FPGA2 FPGA3; gem 0|1 CRYSTAL W0 .. W49 gives HZ; ratios CRYSTAL W0 .. W49 gives N:D of FPGA0 to FPGA0 .. FPGA3, then of FPGA1, FPGA2 and FPGA3; uart-list REF BAUD gives the count and CD:BDIV:ERROR for each pair; pll-seq arm|ddr|io BYPASSED FDIV CP RES LOCK LIMIT R1 R2 .. gives the accesses and the end; help gives this line",
+            ),
+            Saying::Told(call, form) => {
+                // Room for the longest answer, in fixed memory; the form says how many of the words are printed.
+                let mut words = [0; 32];
+                let told = call.make(n, &mut words);
+                put_told(form, told, &words, page)
+            }
+        }
+    }
 }

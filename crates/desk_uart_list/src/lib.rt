@@ -2,47 +2,44 @@
 // record is kept between.
 #![tactic(auto)]
 
-ghost use Rattle.std.specs.Prelude.{◌+◌, ◌≤◌, length};
+ghost use Rattle.std.specs.Prelude.{◌≤◌, IsOk, length};
 ghost use Rattle.text.specs.Put.{InRoom};
 ghost use Rattle.forms.specs.Says.{ROOM, Said, Says};
-ghost use Rattle.desk_uart_list.specs.List.{entry, Prints, Listed};
+ghost use Rattle.desk_uart_list.specs.List.{entry_of, Prints, Listed};
 
 use forms::put_form;
-use text::{put_decimal, room};
-use uart_candidate::{Tried, viable};
+use text::{Full, Page};
+use uart_candidate::{BaudDivisors, Wanted};
 use uart_list::viable_count;
 
-pub fn put_uart_list(reference: u32, baud: u32, out: &mut [u8], at: usize) -> usize
-    ensures { InRoom ROOM (Says (Listed reference baud)) out.old at out.new result }
+pub fn put_uart_list(reference: u32, baud: u32, page: &mut Page<'_>) -> Result<(), Full>
+    ensures { InRoom ROOM (Says (Listed reference baud)) page.old page.new result }
 {
-    if room(out.len(), at) < 8192 {
-        return out.len() + 1;
+    if page.room() < 8192 {
+        return Err(Full);
     }
-    let count = viable_count(reference, baud);
-    let past = put_decimal(count as u64, out, at);
-    put_entries(reference, baud, out, past)
+    let wanted = Wanted::new(reference, baud);
+    let count = viable_count(wanted);
+    page.put_decimal(count as u64)?;
+    put_pairs(wanted, page)
 }
 
-fn put_entries(reference: u32, baud: u32, out: &mut [u8], at: usize) -> usize
-    requires { at + 7900 ≤ length out.old }
-    ensures { Prints reference baud out.old at out.new result }
+fn put_pairs(wanted: Wanted, page: &mut Page<'_>) -> Result<(), Full>
+    requires { 7900 ≤ length page.old.rest }
+    ensures { IsOk result × Prints wanted.reference wanted.target page.old page.new }
 {
-    let mut to = at;
     for bdiv in uart_candidate::FIRST..=uart_candidate::LAST {
-        to = put_entry(viable(reference, baud, bdiv), out, to);
+        if let Some(pair) = wanted.viable(bdiv) {
+            put_pair(pair, page)?;
+        }
     }
-    to
+    Ok(())
 }
 
-fn put_entry(tried: Tried, out: &mut [u8], at: usize) -> usize
-    requires { at + 31 ≤ length out.old }
-    ensures { Said 31 (entry tried) out.old at out.new result }
+fn put_pair(pair: BaudDivisors, page: &mut Page<'_>) -> Result<(), Full>
+    requires { 31 ≤ length page.old.rest }
+    ensures { IsOk result × Said 31 (entry_of pair) page.old page.new }
 {
-    match tried {
-        Tried::Pair(pair) => {
-            let words = [pair.cd as u32, pair.bdiv as u32, float32::bits(pair.error)];
-            put_form(b" #:#:$", &words, out, at)
-        }
-        Tried::Skipped => at,
-    }
+    let words = [pair.cd as u32, pair.bdiv as u32, float32::bits(pair.error)];
+    put_form(b" #:#:$", &words, page)
 }

@@ -8,8 +8,7 @@ use Rattle.clocks.specs.declared.Clocks.{Clocks}
 use Rattle.clocks.proofs.Laws.{same_module}
 use Rattle.evaluation.specs.declared.ClockReadError.{ClockReadError}
 use Rattle.evaluation.specs.declared.ClockReadError.TheVariants.{BadImage, DivisorZero, Overflow}
-use Rattle.evaluation.specs.declared.Evaluated.{Evaluated}
-use Rattle.evaluation.specs.declared.Evaluated.TheVariants as case
+use Rattle.std.proofs.Common.{Result, Ok, Err}
 use Rattle.evaluation.specs.Evaluated.{told, told_error, evaluated}
 
 -- an answer counts as 0, a refusal by its number
@@ -35,11 +34,13 @@ not_answered BadImage clocks p = omega (arith, ap number p)
 not_answered (DivisorZero m) clocks p = omega (arith, ap number p)
 not_answered (Overflow m) clocks p = omega (arith, ap number p)
 
-same_told : (a b : Evaluated) → told a ≡ told b → a ≡ b
-same_told (case.Clocks x) (case.Clocks y) p = cc
-same_told (case.Clocks x) (case.Refused f) p = absurd (not_answered f x (sym p))
-same_told (case.Refused e) (case.Clocks y) p = absurd (not_answered e y p)
-same_told (case.Refused e) (case.Refused f) p = ap case.Refused (same_error e f p)
+same_told : (a b : Result Clocks ClockReadError) → told a ≡ told b → a ≡ b
+same_told (Ok x) (Ok y) p = cc
+same_told (Ok x) (Err f) p = absurd (not_answered f x (sym p))
+same_told (Err e) (Ok y) p = absurd (not_answered e y p)
+same_told (Err e) (Err f) p = ap Err (same_error e f p)
 
-pub unique : (crystal : ℕ) (image : List ℕ) (a b : Evaluated) → told a ≡ evaluated crystal image → told b ≡ evaluated crystal image → a ≡ b
+pub unique :
+    (crystal : ℕ) (image : List ℕ) (a b : Result Clocks ClockReadError) →
+    told a ≡ evaluated crystal image → told b ≡ evaluated crystal image → a ≡ b
 unique crystal image a b p q = same_told a b (p ∙ sym q)

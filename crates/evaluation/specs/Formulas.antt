@@ -1,5 +1,5 @@
 -- What every clock of an image is: document 01, "Evaluation". Each is a PLL's output over the product of its divisors, rounded down.
-use Rattle.std.specs.Prelude.{ℕ, zero, suc, ◌*◌, List}
+use Rattle.std.specs.Prelude.{ℕ, zero, suc, ◌*◌, List, [], ◌∷◌}
 use Rattle.fields.specs.Word.{read_field}
 use Rattle.registers.specs.declared.PllType.TheVariants.{Ddr}
 use Rattle.registers.specs.Fields.{DIVISOR, DIV_3X, DIV_2X, RATIO}
@@ -12,7 +12,6 @@ use Rattle.clocks.specs.declared.arm.ArmClocks.{ArmClocks}
 use Rattle.clocks.specs.declared.arm.CpuClockRatio.{CpuClockRatio}
 use Rattle.clocks.specs.declared.arm.CpuClockRatio.TheVariants.{FourToTwoToOne, SixToTwoToOne}
 use Rattle.clocks.specs.declared.ddr.DdrClocks.{DdrClocks}
-use Rattle.clocks.specs.declared.PlClocks.{PlClocks}
 use Rattle.clocks.specs.declared.Clocks.{Clocks}
 
 -- the three PLLs
@@ -89,14 +88,13 @@ io_clocks out image =
       trace_clk = trace_clk out (word image DBG_CLK_CTRL);
     }
 
-abbrev pub pl_clocks : PllOutputs → List ℕ → PlClocks
+abbrev pub pl_clocks : PllOutputs → List ℕ → List ℕ
 pl_clocks out image =
-    record {
-      fclk_0 = frequency out (dual (word image FPGA_0_CLK_CTRL));
-      fclk_1 = frequency out (dual (word image FPGA_1_CLK_CTRL));
-      fclk_2 = frequency out (dual (word image FPGA_2_CLK_CTRL));
-      fclk_3 = frequency out (dual (word image FPGA_3_CLK_CTRL));
-    }
+    frequency out (dual (word image FPGA_0_CLK_CTRL))
+    ∷ frequency out (dual (word image FPGA_1_CLK_CTRL))
+    ∷ frequency out (dual (word image FPGA_2_CLK_CTRL))
+    ∷ frequency out (dual (word image FPGA_3_CLK_CTRL))
+    ∷ []
 
 -- the whole record
 abbrev pub clocks_of : ℕ → List ℕ → Clocks

@@ -3,12 +3,14 @@ ghost use Rattle.std.specs.Prelude.{◌≡◌};
 ghost use Rattle.sources.specs.Clock.{frequency};
 ghost use Rattle.evaluation.specs.Formulas.{ratio_of, cpu, arm_clocks};
 
+use crate::tree::ClockTree;
 use clocks::arm::{ArmClocks, CpuClockRatio};
 use fields::read_field;
 use registers::{ARM_CLK_CTRL, CLK_RATIO_SELECT, DIVISOR, RATIO, word};
 use sources::{PllOutputs, arm_source, divided};
 
 // The ratio word.
+// A bit of one word, and no number that stands for a ratio: a From would say it of every number.
 pub fn cpu_ratio(control: u32) -> CpuClockRatio
     ensures { result ≡ ratio_of control }
 {
@@ -26,27 +28,24 @@ pub fn cpu_6x4x(out: PllOutputs, control: u32) -> u32
     divided(out.of(arm_source(control)), read_field(control, DIVISOR))
 }
 
-pub fn arm_clocks(out: PllOutputs, image: &[u32]) -> ArmClocks
-    ensures { result ≡ arm_clocks out image.now }
-{
-    let q = cpu_6x4x(out, word(image, ARM_CLK_CTRL));
-    let ratio = cpu_ratio(word(image, CLK_RATIO_SELECT));
-    match ratio {
-        CpuClockRatio::FourToTwoToOne => ArmClocks {
-            ref_clk: out.arm_pll_out,
-            ratio: CpuClockRatio::FourToTwoToOne,
-            cpu_1x_clk: q / 4,
-            cpu_2x_clk: q / 2,
+impl<'a> ClockTree<'a> {
+    #[tactic(auto, using(crate::proofs::Laws::q_over))]
+    pub fn arm(&self) -> ArmClocks
+        ensures { result ≡ arm_clocks self.now.out self.now.image.now }
+    {
+        let q = cpu_6x4x(self.out, word(self.image, ARM_CLK_CTRL));
+        let ratio = cpu_ratio(word(self.image, CLK_RATIO_SELECT));
+        let (cpu_1x_clk, cpu_2x_clk) = match ratio {
+            CpuClockRatio::FourToTwoToOne => (q / 4, q / 2),
+            CpuClockRatio::SixToTwoToOne => (q / 6, q / 3),
+        };
+        ArmClocks {
+            ref_clk: self.out.arm_pll_out,
+            ratio,
+            cpu_1x_clk,
+            cpu_2x_clk,
             cpu_3x2x_clk: q / 2,
             cpu_6x4x_clk: q,
-        },
-        CpuClockRatio::SixToTwoToOne => ArmClocks {
-            ref_clk: out.arm_pll_out,
-            ratio: CpuClockRatio::SixToTwoToOne,
-            cpu_1x_clk: q / 6,
-            cpu_2x_clk: q / 3,
-            cpu_3x2x_clk: q / 2,
-            cpu_6x4x_clk: q,
-        },
+        }
     }
 }

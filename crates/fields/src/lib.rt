@@ -14,6 +14,7 @@ pub struct Field {
 }
 
 // The field's bits as a number: word / 2^lo % 2^width.
+#[tactic(auto, using(crate::proofs::Shifts::past, crate::proofs::Shifts::whole), unfolding(crate::specs::Word::read_field))]
 pub fn read_field(word: u32, f: Field) -> u32
     ensures { result ≡ read_field word f }
 {
@@ -30,6 +31,7 @@ pub fn read_field(word: u32, f: Field) -> u32
 
 // The word with the low bits of the value in the field's place, and every other bit as it was. A value too wide for the field never
 // reaches the other bits.
+#[tactic(auto, using(crate::proofs::Shifts::set_past, crate::proofs::Shifts::takes, crate::proofs::Shifts::gives, crate::proofs::Shifts::fits))]
 pub fn set_field(word: u32, f: Field, value: u32) -> u32
     ensures { result ≡ set_field word (inside f) value }
 {

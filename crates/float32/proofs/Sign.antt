@@ -1,19 +1,21 @@
 -- A float's sign is the highest bit of its pattern: without it the pattern is that of the absolute value.
-use Rattle.std.proofs.Common.{◌≡◌, ℕ, zero, suc, ◌+◌, ◌*◌, ◌%◌, ◌<◌, true, false, not, T, ℤ, sym, refl, ◌∙◌, true≢false, arith}
-use lib.Ieee.{Float, nan, inf, fin, binary32, fits, to_bits, of_bits, nan_bits, is_nan, ne}
+use Rattle.std.proofs.Common.{◌≡◌, ℕ, zero, suc, ◌+◌, ◌*◌, ◌%◌, ◌<◌, true, false, not, T, ℤ, sym, refl, true≢false, arith}
+use lib.Ieee.{Float, nan, inf, fin, binary32, fits, to_bits, of_bits, nan_bits, is_nan}
 use lib.Ieee.Bits.{of_bits-to_bits, to_bits-lt, nan_bits_is}
-use lib.Ieee.Compare.{nan_differs, differs_from_itself}
 use Rattle.float32.specs.Whole.{abs}
 
-pub number : (x : Float) → ne x x ≡ false → T (not (is_nan x))
-unfolding is_nan
-number nan e = absurd (true≢false (sym nan_differs ∙ e))
-number (inf s) e = tt
-number (fin s m e) p = tt
+-- what is no number is its own absolute value, and has the one pattern
+pub none : (x : Float) → is_nan x ≡ true → x ≡ abs x
+unfolding is_nan abs
+none nan e = refl
+none (inf s) e = absurd (true≢false (sym e))
+none (fin s m k) e = absurd (true≢false (sym e))
 
-pub none : (x : Float) → T (ne x x) → x ≡ abs x
-unfolding abs
-none x t = rw (differs_from_itself x t) refl
+pub one_pattern : (x : Float) → is_nan x ≡ true → 2143289344 ≡ to_bits binary32 x
+unfolding is_nan to_bits
+one_pattern nan e = refl
+one_pattern (inf s) e = absurd (true≢false (sym e))
+one_pattern (fin s m k) e = absurd (true≢false (sym e))
 
 pub abs_fits : (x : Float) → T (fits binary32 x) → T (fits binary32 (abs x))
 unfolding abs fits

@@ -6,5 +6,9 @@ ghost use Rattle.float32.specs.Whole.{bits_of};
 pub fn bits(x: f32) -> u32
     ensures { result ≡ bits_of x }
 {
-    if x != x { 0x7fc0_0000 } else { f32::to_bits(x) }
+    if x.is_nan() {
+        0x7fc0_0000
+    } else {
+        f32::to_bits(x)
+    }
 }

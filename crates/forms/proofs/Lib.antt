@@ -1,3 +1,2 @@
-pub mod Saying
 pub mod Printing
-pub mod Telling
+pub mod Saying

@@ -2,32 +2,36 @@
 use mathlib.Core.List.{List, [], ◌++◌}
 use Prim.Native.Nat.{ℕ, ◌+◌, ◌≤◌}
 use native.Mathlib.Omega.{arith}
-use lib.ListN.{length}
+use lib.ListN.{length, length-append}
+use Rattle.std.specs.Prelude.{Result, IsOk}
+use Rattle.text.specs.Page.{Contents}
 use Rattle.text.specs.Put.{Put}
-use Rattle.text.proofs.Writing.{as_long, nothing, then}
+use Rattle.text.specs.declared.page.Full.{Full}
+use Rattle.text.proofs.Writing.{nothing, then}
 use Rattle.forms.specs.Says.{Said, Says}
 
-module _ {text before : List ℕ} {at : ℕ} {after : List ℕ} {next : ℕ} where
+module _ {text : List ℕ} {before after : Contents} where
   -- a bound may be widened
-  pub within : (m : ℕ) {n : ℕ} → m ≤ n → Said m text before at after next → Said n text before at after next
+  pub within : (m : ℕ) {n : ℕ} → m ≤ n → Said m text before after → Said n text before after
   within m h s = record { wrote = s.wrote; within = omega (arith, s.within) }
 
-  -- what a writer of crate text leaves, where its text is short
-  pub said : {m : ℕ} → length text ≤ m → at + m ≤ length before → Put text before at after next → Said m text before at after next
-  said h room p =
-      let w = p.fits (omega arith) in
-      record { wrote = w; within = omega (arith, w.next_is) }
+  pub wider : {Ended : Type 0} (m : ℕ) {n : ℕ} → m ≤ n → Ended × Said m text before after → Ended × Said n text before after
+  wider m h p = (p.0, within m h p.1)
 
-  pub says : {Right : List ℕ → Type 0} (m : ℕ) → m ≤ 8000 → Said m text before at after next → Right text → Says Right before at after next
+  -- what a writer of crate text leaves, where its text is short
+  pub said : {m : ℕ} (r : Result Unit Full) → length text ≤ m → m ≤ length before.rest → Put text before after r → IsOk r × Said m text before after
+  said r h room p = let w = p.fits (omega arith) in (w.0, record { wrote = w.1; within = h })
+
+  pub says : {Right : List ℕ → Type 0} (m : ℕ) → m ≤ 8000 → Said m text before after → Right text → Says Right before after
   says m h s right = record { text = text; right = right; said = within m h s }
 
-pub said_nothing : (before : List ℕ) (at : ℕ) {m : ℕ} → at + m ≤ length before → Said m [] before at before at
-said_nothing before at h = record { wrote = nothing before at (omega arith); within = omega arith }
+pub said_nothing : (page : Contents) {m : ℕ} → Said m [] page page
+said_nothing page = record { wrote = nothing page; within = omega arith }
 
 -- two writers in a row
-module _ {t before : List ℕ} {at : ℕ} {middle : List ℕ} {past m : ℕ} (s : Said m t before at middle past) where
-  pub room_after : (n : ℕ) → at + (m + n) ≤ length before → past + n ≤ length middle
-  room_after n h = omega (arith, s.within, as_long s.wrote)
+module _ {t : List ℕ} {before middle : Contents} {m : ℕ} (s : Said m t before middle) where
+  pub room_after : (n : ℕ) → m + n ≤ length before.rest → n ≤ length middle.rest
+  room_after n h = omega (arith, s.within, s.wrote.inside)
 
-  pub both : {u : List ℕ} {n : ℕ} {after : List ℕ} {next : ℕ} → Said n u middle past after next → Said (m + n) (t ++ u) before at after next
-  both r = record { wrote = then s.wrote r.wrote; within = omega (arith, s.within, r.within) }
+  pub both : {u : List ℕ} {n : ℕ} {after : Contents} → Said n u middle after → Said (m + n) (t ++ u) before after
+  both {u} r = record { wrote = then s.wrote r.wrote; within = omega (arith, s.within, r.within, length-append t u) }

@@ -2,8 +2,8 @@
 use Rattle.std.specs.Prelude.{ℕ, ◌+◌, ◌-◌, Bool, true, false, cond, List, [], ◌∷◌, ◌++◌, eqb, get_or, drop}
 use Rattle.text.specs.Bytes.{bytes}
 use Rattle.text.specs.Digits.{decimal, hex}
-use Rattle.forms.specs.declared.form.Kind.{Kind}
-use Rattle.forms.specs.declared.form.Kind.TheVariants.{Number, Hex, Option, Clock, Space, Itself}
+use Rattle.forms.specs.declared.kind.Kind.{Kind}
+use Rattle.forms.specs.declared.kind.Kind.TheVariants.{Number, Hex, Option, Clock, Space, Itself}
 
 abbrev pub pick : Bool → Kind → Kind → Kind
 pick true a b = a
@@ -15,7 +15,7 @@ kind_of c = pick (eqb c 35) Number (pick (eqb c 36) Hex (pick (eqb c 63) Option 
 
 -- What a byte of a form prints of the next word and the one after it. `#` is the word in decimal and `$` as eight hex digits; `?` is
 -- `none` for 0, else one less in decimal; `~` is Hertz and a flag, `emio` where the flag is not 0, else the Hertz in decimal; `_` is a space,
--- for a form that is itself a word of a line.
+-- so that a form can be one word.
 abbrev pub item : Kind → ℕ → ℕ → ℕ → List ℕ
 item Number byte word after = decimal word
 item Hex byte word after = hex word

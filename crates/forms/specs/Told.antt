@@ -1,17 +1,18 @@
--- What a call hands back, as text: 0 in the lower 32 bits is an answer, whose words are printed by a form. Else they are the refusal's
--- number, and the upper 32 bits are what it carries.
-use Rattle.std.specs.Prelude.{ℕ, ◌/◌, ◌%◌, max, cond, List, [], ◌∷◌, eqb}
-use Rattle.refusals.specs.Carried.{carries}
+-- What a call tells, as text: the words of an answer are printed by a form.
+use Rattle.std.specs.Prelude.{ℕ, max, List, [], ◌∷◌}
+use Rattle.refusals.specs.Told.{Told, answered, refused}
 use Rattle.text.specs.Bytes.{bytes}
 use Rattle.forms.specs.Form.{printed, most}
 
 -- a refusal, and behind it what it carries
-unfoldable pub refusal_text : ℕ → ℕ → List ℕ
-refusal_text number carried = cond (carries number) (printed (bytes "refused # #") (number ∷ carried ∷ [])) (printed (bytes "refused #") (number ∷ []))
+abbrev pub refusal_text : ℕ → List ℕ → List ℕ
+refusal_text number [] = printed (bytes "refused #") (number ∷ [])
+refusal_text number (carried ∷ _) = printed (bytes "refused # #") (number ∷ carried ∷ [])
 
 -- the answer or the refusal
-unfoldable pub told_text : List ℕ → ℕ → List ℕ → List ℕ
-told_text form told words = cond (eqb (told % 4294967296) 0) (printed form words) (refusal_text (told % 4294967296) (told / 4294967296))
+abbrev pub told_text : {A : Type 0} → List ℕ → Told A → List ℕ → List ℕ
+told_text form (answered _) words = printed form words
+told_text form (refused number carried) words = refusal_text number carried
 
 -- the room that it wants
 abbrev pub told_most : List ℕ → ℕ

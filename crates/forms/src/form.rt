@@ -1,134 +1,65 @@
-ghost use Rattle.std.specs.Prelude.{◌≡◌, ◌+◌, ◌≤◌, leb, length, get_or};
+ghost use Rattle.std.specs.Prelude.{◌≡◌, ◌≤◌, IsOk, IsErr, drop, get_or, length};
+ghost use Rattle.std.specs.Slice.Iter.{iter_rest};
+ghost use Rattle.bounds.specs.Within.{Within};
 ghost use Rattle.text.specs.Put.{InRoom};
-ghost use Rattle.forms.specs.Form.{kind_of, item, takes as takes_of, width as width_of, printed, most};
+ghost use Rattle.forms.specs.Form.{kind_of, item, takes, width as width_of, printed, most};
 ghost use Rattle.forms.specs.Says.{Said};
 
-use text::{put_byte, put_bytes, put_decimal, put_hex};
+use crate::kind::Kind;
+use std::slice::Iter;
+use text::{Full, Page};
 
-// What a byte of a form stands for.
-#[derive(Clone, Copy)]
-pub enum Kind {
-    Number,
-    Hex,
-    Option,
-    Clock,
-    Space,
-    Itself,
+pub fn put_form(form: &[u8], words: &[u32], page: &mut Page<'_>) -> Result<(), Full>
+    ensures { InRoom (most form.now) (Said (most form.now) (printed form.now words.now)) page.old page.new result }
+{
+    fits(form, page.room())?;
+    let mut left = words.iter();
+    for &byte in form {
+        put_item(byte, &mut left, page)?;
+    }
+    Ok(())
 }
 
-pub fn put_form(form: &[u8], words: &[u32], out: &mut [u8], at: usize) -> usize
-    ensures { InRoom (most form.now) (Said (most form.now) (printed form.now words.now)) out.old at out.new result }
+// Whether there is room for all that the form may print.
+pub fn fits(form: &[u8], room: usize) -> Result<(), Full>
+    ensures { Within (most form.now) room (IsOk result) (IsErr result) }
 {
-    if !fits(form, out.len(), at) {
-        return out.len() + 1;
+    let mut left = room;
+    for &byte in form {
+        left = left.checked_sub(Kind::from(byte).width()).ok_or(Full)?;
     }
-    let mut to = at;
-    let mut next = 0;
-    let mut i = 0;
-    while i < form.len() {
-        let kind = kind_of(form[i]);
-        to = put_item(
-            kind,
-            form[i],
-            word_at(words, next),
-            word_at(words, next + 1),
-            out,
-            to,
-        );
-        next += takes(kind);
-        i += 1;
-    }
-    to
+    Ok(())
 }
 
-// Whether a buffer of a length has room from a position on for all that the form may print.
-pub fn fits(form: &[u8], length: usize, at: usize) -> bool
-    ensures { result ≡ leb (at + most form.now) length }
+// What a byte of the form stands for, with the words that it takes.
+fn put_item(byte: u8, words: &mut Iter<'_, u32>, page: &mut Page<'_>) -> Result<(), Full>
+    requires { width_of (kind_of byte) ≤ length page.old.rest }
+    ensures text { IsOk result × Said (width_of (kind_of byte)) (item (kind_of byte) byte (get_or (iter_rest words.old) 0 0) (get_or (iter_rest words.old) 1 0)) page.old page.new }
+    ensures rest { iter_rest words.new ≡ drop (takes (kind_of byte)) (iter_rest words.old) }
 {
-    if length < at {
-        return false;
-    }
-    let mut left = length - at;
-    let mut i = 0;
-    while i < form.len() {
-        let wide = width(kind_of(form[i]));
-        if left < wide {
-            return false;
-        }
-        left -= wide;
-        i += 1;
-    }
-    true
-}
-
-fn put_item(kind: Kind, byte: u8, word: u32, after: u32, out: &mut [u8], at: usize) -> usize
-    requires { at + width_of kind ≤ length out.old }
-    ensures { Said (width_of kind) (item kind byte word after) out.old at out.new result }
-{
-    match kind {
-        Kind::Number => put_decimal(word as u64, out, at),
-        Kind::Hex => put_hex(word, out, at),
-        Kind::Option => {
-            if word == 0 {
-                put_bytes(b"none", out, at)
-            } else {
-                put_decimal((word - 1) as u64, out, at)
-            }
-        }
+    match Kind::from(byte) {
+        Kind::Number => page.put_decimal(u64::from(next(words))),
+        Kind::Hex => page.put_hex(next(words)),
+        Kind::Option => match next(words) {
+            0 => page.put_bytes(b"none"),
+            word => page.put_decimal(u64::from(word - 1)),
+        },
         Kind::Clock => {
-            if after == 0 {
-                put_decimal(word as u64, out, at)
-            } else {
-                put_bytes(b"emio", out, at)
+            let hertz = next(words);
+            match next(words) {
+                0 => page.put_decimal(u64::from(hertz)),
+                _ => page.put_bytes(b"emio"),
             }
         }
-        Kind::Space => put_byte(b' ', out, at),
-        Kind::Itself => put_byte(byte, out, at),
+        Kind::Space => page.put_byte(b' '),
+        Kind::Itself => page.put_byte(byte),
     }
 }
 
-fn kind_of(byte: u8) -> Kind
-    ensures { result ≡ kind_of byte }
+// The next word, or 0 where they have run out.
+fn next(words: &mut Iter<'_, u32>) -> u32
+    ensures word { result ≡ get_or (iter_rest words.old) 0 0 }
+    ensures rest { iter_rest words.new ≡ drop 1 (iter_rest words.old) }
 {
-    match byte {
-        b'#' => Kind::Number,
-        b'$' => Kind::Hex,
-        b'?' => Kind::Option,
-        b'~' => Kind::Clock,
-        b'_' => Kind::Space,
-        _ => Kind::Itself,
-    }
-}
-
-fn takes(kind: Kind) -> usize
-    ensures { result ≡ takes_of kind }
-{
-    match kind {
-        Kind::Number => 1,
-        Kind::Hex => 1,
-        Kind::Option => 1,
-        Kind::Clock => 2,
-        Kind::Space => 0,
-        Kind::Itself => 0,
-    }
-}
-
-fn width(kind: Kind) -> usize
-    ensures { result ≡ width_of kind }
-{
-    match kind {
-        Kind::Number => 10,
-        Kind::Hex => 8,
-        Kind::Option => 10,
-        Kind::Clock => 10,
-        Kind::Space => 1,
-        Kind::Itself => 1,
-    }
-}
-
-// A word, or 0 where they have run out.
-fn word_at(words: &[u32], i: usize) -> u32
-    ensures { result ≡ get_or words.now i 0 }
-{
-    if i < words.len() { words[i] } else { 0 }
+    words.next().copied().unwrap_or(0)
 }

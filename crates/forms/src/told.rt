@@ -1,51 +1,40 @@
-ghost use Rattle.std.specs.Prelude.{◌≡◌, ◌+◌, ◌≤◌, length};
-ghost use Rattle.refusals.specs.Carried.{carries as carries_of};
+ghost use Rattle.std.specs.Prelude.{◌≡◌, ◌≤◌, IsOk, length};
+ghost use Rattle.refusals.specs.Refusal.{told as told_of, number_of, carried_by, listed};
 ghost use Rattle.text.specs.Put.{InRoom};
 ghost use Rattle.forms.specs.Says.{Said};
 ghost use Rattle.forms.specs.Told.{refusal_text, told_text, told_most};
 
 use crate::form::fits;
 use crate::put_form;
-use text::room;
+use refusals::Refusal;
+use text::{Full, Page};
 
 // What a call hands back: the words of its answer, or its refusal.
-pub fn put_told(form: &[u8], told: u64, words: &[u32], out: &mut [u8], at: usize) -> usize
-    ensures { InRoom (told_most form.now) (Said (told_most form.now) (told_text form.now told words.now)) out.old at out.new result }
+pub fn put_told(
+    form: &[u8],
+    told: Result<(), Refusal>,
+    words: &[u32],
+    page: &mut Page<'_>,
+) -> Result<(), Full>
+    ensures { InRoom (told_most form.now) (Said (told_most form.now) (told_text form.now (told_of told) words.now)) page.old page.new result }
 {
-    if room(out.len(), at) < 40 {
-        return out.len() + 1;
+    fits(form, page.room())?;
+    if page.room() < 40 {
+        return Err(Full);
     }
-    if !fits(form, out.len(), at) {
-        return out.len() + 1;
-    }
-    let number = (told % 4294967296) as u32;
-    if number == 0 {
-        put_form(form, words, out, at)
-    } else {
-        put_refusal(number, (told / 4294967296) as u32, out, at)
+    match told {
+        Ok(()) => put_form(form, words, page),
+        Err(refusal) => put_refusal(refusal, page),
     }
 }
 
-fn put_refusal(number: u32, carried: u32, out: &mut [u8], at: usize) -> usize
-    requires { at + 40 ≤ length out.old }
-    ensures { Said 40 (refusal_text number carried) out.old at out.new result }
+fn put_refusal(refusal: Refusal, page: &mut Page<'_>) -> Result<(), Full>
+    requires { 40 ≤ length page.old.rest }
+    ensures { IsOk result × Said 40 (refusal_text (number_of refusal) (listed (carried_by refusal))) page.old page.new }
 {
-    let row = [number, carried];
-    if carries(number) {
-        put_form(b"refused # #", &row, out, at)
-    } else {
-        put_form(b"refused #", &row[..1], out, at)
-    }
-}
-
-fn carries(number: u32) -> bool
-    ensures { result ≡ carries_of number }
-{
-    match number {
-        2 => true,
-        3 => true,
-        5 => true,
-        9 => true,
-        n => n == 15,
+    let number = refusal.number();
+    match refusal.carried() {
+        Some(carried) => put_form(b"refused # #", &[number, carried], page),
+        None => put_form(b"refused #", &[number], page),
     }
 }

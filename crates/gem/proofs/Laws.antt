@@ -13,8 +13,8 @@ use Rattle.sources.specs.Clock.{frequency, dual}
 use Rattle.sources.specs.Source.{io_source}
 use Rattle.clocks.specs.declared.module_id.ClockModuleId.{ClockModuleId}
 use Rattle.clocks.proofs.Laws.{same_module}
-use Rattle.gem.specs.declared.GemRead.{GemRead}
-use Rattle.gem.specs.declared.GemRead.TheVariants.{Hertz, DivisorZero}
+use Rattle.std.proofs.Common.{Result, Ok, Err}
+use Rattle.gem.specs.declared.DivisorZero.{DivisorZero}
 use Rattle.gem.specs.Gem.{Right, divisor_0, divisor_1, clock, told}
 
 pub same : {out : PllOutputs} {word : ℕ} {id : ClockModuleId} {a b : Told ℕ} → Right out word id a → Right out word id b → a ≡ b
@@ -28,13 +28,15 @@ same (clock p q) (divisor_0 y) = absurd (omega arith)
 same (clock p q) (divisor_1 r y) = absurd (omega arith)
 same (clock p q) (clock r s) = refl
 
-same_told : (a b : GemRead) → told a ≡ told b → a ≡ b
-same_told (Hertz m) (Hertz n) p = cc
-same_told (Hertz m) (DivisorZero i) p = cc
-same_told (DivisorZero i) (Hertz n) p = cc
-same_told (DivisorZero i) (DivisorZero j) p = ap DivisorZero (same_module i j cc)
+same_told : (a b : Result ℕ DivisorZero) → told a ≡ told b → a ≡ b
+same_told (Ok m) (Ok n) p = cc
+same_told (Ok m) (Err i) p = cc
+same_told (Err i) (Ok n) p = cc
+same_told (Err i) (Err j) p = ap (λ (id : ClockModuleId). Err (record { 0 = id })) (same_module i.0 j.0 cc)
 
-pub unique : {out : PllOutputs} {word : ℕ} {id : ClockModuleId} (a b : GemRead) → Right out word id (told a) → Right out word id (told b) → a ≡ b
+pub unique :
+    {out : PllOutputs} {word : ℕ} {id : ClockModuleId} (a b : Result ℕ DivisorZero) →
+    Right out word id (told a) → Right out word id (told b) → a ≡ b
 unique a b p q = same_told a b (same p q)
 
 abbrev EMIO : Field

@@ -2,52 +2,56 @@
 #![tactic(auto)]
 
 ghost use Rattle.std.specs.Prelude.{◌≡◌};
-ghost use Rattle.gem.specs.Gem.{Right, told, outputs_in};
+ghost use Rattle.clocks.specs.Whole.{outputs_in};
+ghost use Rattle.gem.specs.Gem.{Right, told, refusal_of};
 ghost use Rattle.clocks.specs.declared.module_id.ClockModuleId.TheVariants.{Gem0, Gem1};
 
 use clocks::Clocks;
 use clocks::module_id::ClockModuleId;
 use fields::read_field;
+use refusals::Refusal;
 use registers::{DIVISOR, DIVISOR_1};
-use sources::{PllOutputs, dual_clock};
+use sources::PllOutputs;
 
+// A divisor of the module's word is 0.
 #[derive(Clone, Copy)]
-pub enum GemRead {
-    Hertz(u32),
-    DivisorZero(ClockModuleId),
+pub struct DivisorZero(pub ClockModuleId);
+
+impl From<DivisorZero> for Refusal {
+    ghost from_gives = { λ zero refusal. refusal ≡ refusal_of zero };
+
+    fn from(zero: DivisorZero) -> Refusal {
+        Refusal::DivisorZero(u32::from(zero.0))
+    }
 }
 
 // From the PLL outputs of a record, wherever they are kept.
-pub fn calculate_gem_ref_clock(out: PllOutputs, word: u32, id: ClockModuleId) -> GemRead
+#[tactic(auto, using(crate::specs::Gem::divisor_0, crate::specs::Gem::divisor_1, crate::specs::Gem::clock))]
+pub fn calculate_gem_ref_clock(
+    out: PllOutputs,
+    word: u32,
+    id: ClockModuleId,
+) -> Result<u32, DivisorZero>
     ensures { Right out word id (told result) }
 {
     if read_field(word, DIVISOR) == 0 {
-        return GemRead::DivisorZero(id);
+        return Err(DivisorZero(id));
     }
     if read_field(word, DIVISOR_1) == 0 {
-        return GemRead::DivisorZero(id);
+        return Err(DivisorZero(id));
     }
-    GemRead::Hertz(dual_clock(out, word))
+    Ok(out.dual_clock(word))
 }
 
-fn outputs(clocks: Clocks) -> PllOutputs
-    ensures { result ≡ outputs_in clocks }
-{
-    PllOutputs {
-        arm_pll_out: clocks.arm_pll_out,
-        ddr_pll_out: clocks.ddr_pll_out,
-        io_pll_out: clocks.io_pll_out,
-    }
-}
-
-pub fn calculate_gem_0_ref_clock(clocks: Clocks, word: u32) -> GemRead
+// The original has a call for each controller.
+pub fn calculate_gem_0_ref_clock(clocks: Clocks, word: u32) -> Result<u32, DivisorZero>
     ensures { Right (outputs_in clocks) word Gem0 (told result) }
 {
-    calculate_gem_ref_clock(outputs(clocks), word, ClockModuleId::Gem0)
+    calculate_gem_ref_clock(PllOutputs::from(clocks), word, ClockModuleId::Gem0)
 }
 
-pub fn calculate_gem_1_ref_clock(clocks: Clocks, word: u32) -> GemRead
+pub fn calculate_gem_1_ref_clock(clocks: Clocks, word: u32) -> Result<u32, DivisorZero>
     ensures { Right (outputs_in clocks) word Gem1 (told result) }
 {
-    calculate_gem_ref_clock(outputs(clocks), word, ClockModuleId::Gem1)
+    calculate_gem_ref_clock(PllOutputs::from(clocks), word, ClockModuleId::Gem1)
 }

@@ -1,8 +1,10 @@
 -- What a call hands back as numbers: one of 64 bits, and a lent row of words. Programs in C get just this, and the desk prints it.
-use Rattle.std.specs.Prelude.{ℕ, ◌+◌, ◌*◌, ◌^◌, ◌≡◌, List, [], ◌∷◌, ◌++◌, length, drop}
+use Rattle.std.specs.Prelude.{ℕ, Result, ◌+◌, ◌*◌, ◌^◌, ◌≡◌, List, [], ◌∷◌, ◌++◌, length, drop}
 use Rattle.bounds.specs.Within.{Within}
 use Rattle.refusals.specs.Told.{Told, answered, refused}
 use Rattle.refusals.specs.Carried.{Carried}
+use Rattle.refusals.specs.Refusal.{told}
+use Rattle.refusals.specs.declared.Refusal.{Refusal}
 use Rattle.refusals.specs.Number.{NO_ROOM}
 
 abbrev pub first : List ℕ → ℕ
@@ -17,6 +19,10 @@ code number carried = number + first carried * 2 ^ 32
 abbrev pub coded : {A : Type 0} → Told A → ℕ
 coded (answered a) = 0
 coded (refused number carried) = code number carried
+
+-- the same of a call that puts its answer into a row
+abbrev pub returned : Result (Unit {0}) Refusal → ℕ
+returned r = coded (told r)
 
 -- An answer is 0, with its words at the front of the row and what lies behind them as it was. A refusal leaves the row as it was.
 -- `Tells` is what the call tells.

@@ -1,50 +1,54 @@
-// A lent row of words: refusing one that is too short, and putting an answer's words at its front.
+// A lent row: refusing one that is too short, and putting an answer's words at its front.
 #![tactic(auto)]
 
-ghost use Rattle.std.specs.Prelude.{◌≡◌, [], ◌∷◌, ◌++◌, ◌≤◌, ◌<◌, ◌%◌, ◌^◌, length, drop};
-ghost use Rattle.refusals.specs.Number.{NO_ROOM};
+ghost use Rattle.std.specs.Prelude.{◌≡◌, [], ◌∷◌, ◌++◌, ◌≤◌, ◌%◌, ◌^◌, length, drop, Ok, Err};
 ghost use Rattle.bounds.specs.Within.{Within};
-ghost use Rattle.handing.specs.Handed.{code, Handed, Answers};
+ghost use Rattle.refusals.specs.declared.Refusal.TheVariants.{NoRoom};
+ghost use Rattle.handing.specs.Handed.{returned, Handed, Answers};
 
-// A refusal that carries a number.
-pub fn carrying(number: u32, carried: u32) -> u64
-    ensures { result ≡ code number (carried ∷ []) }
-{
-    number as u64 + carried as u64 * 0x1_0000_0000
-}
+use refusals::Refusal;
 
-// Refusal 9, carrying how many words are needed.
-pub fn no_room(words: u32) -> u64
-    ensures { result ≡ code NO_ROOM (words ∷ []) }
+// What a program in C gets of a call: 0, or the refusal's number below and what it carries above.
+pub fn code(told: Result<(), Refusal>) -> u64
+    ensures { result ≡ returned told }
 {
-    carrying(9, words)
-}
-
-fn put_front(out: &mut [u32], words: &[u32])
-    requires { length words.now ≤ length out.old }
-    ensures { out.new ≡ words.now ++ drop (length words.now) out.old }
-{
-    let mut i = 0;
-    while i < words.len() {
-        out[i] = words[i];
-        i += 1;
+    match told {
+        Ok(()) => 0,
+        Err(refusal) => {
+            let carried = refusal.carried().unwrap_or(0);
+            refusal.number() as u64 + carried as u64 * 0x1_0000_0000
+        }
     }
 }
 
-// 0, and the words at the row's front. A row too short for them is refused, and is as it was; what the refusal carries has 32 bits.
-pub fn put(out: &mut [u32], words: &[u32]) -> u64
-    ensures { Within (length words.now) (length out.old) ((result ≡ 0) × (out.new ≡ words.now ++ drop (length words.now) out.old)) ((result ≡ code NO_ROOM (length words.now % 2 ^ 32 ∷ [])) × (out.new ≡ out.old)) }
+// A row that has not so many places is refused, and with it whatever else there may be to refuse.
+pub fn room(lent: usize, places: u32) -> Result<(), Refusal>
+    ensures { Within places lent (result ≡ Ok tt) (result ≡ Err (NoRoom places)) }
 {
-    if out.len() < words.len() {
-        return no_room((words.len() % 0x1_0000_0000) as u32);
+    if lent < places as usize {
+        return Err(Refusal::NoRoom(places));
     }
-    put_front(out, words);
-    0
+    Ok(())
+}
+
+// The words at the row's front. A row too short for them is refused, and is as it was; what the refusal carries has 32 bits.
+pub fn put<T: Copy>(out: &mut [T], words: &[T]) -> Result<(), Refusal>
+    ensures { Within (length words.now) (length out.old) ((result ≡ Ok tt) × (out.new ≡ words.now ++ drop (length words.now) out.old)) ((result ≡ Err (NoRoom (length words.now % 2 ^ 32))) × (out.new ≡ out.old)) }
+{
+    let n = words.len();
+    if out.len() < n {
+        return Err(Refusal::NoRoom((n % 0x1_0000_0000) as u32));
+    }
+    // Word by word: two words copied as one block would be written in halves and read back whole, for which the processor waits.
+    for (i, &word) in words.iter().enumerate() {
+        out[i] = word;
+    }
+    Ok(())
 }
 
 // An answer of one number.
-pub fn put_number(value: u32, out: &mut [u32]) -> u64
-    ensures { Handed 1 (Answers value) out.old result out.new }
+pub fn put_number(value: u32, out: &mut [u32]) -> Result<(), Refusal>
+    ensures { Handed 1 (Answers value) out.old (returned result) out.new }
 {
     put(out, &[value])
 }

@@ -1,4 +1,3 @@
 pub mod Laws
-pub mod Row
 pub mod Search
 pub mod Test

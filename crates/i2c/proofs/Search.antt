@@ -1,66 +1,66 @@
--- Laws of the search over first divisors: what it has after the first row, after one more row, and after the last.
+-- The pair that the search of crate nearness finds is the best one: where the target is at least 64, its second divisor is the smallest of
+-- those equally near.
 -- Assumes nothing.
-use mathlib.Core.Path.{◌≡◌, subst, subst₂, fun_ext}
-use Prim.Native.Nat.{ℕ, ◌+◌, ◌*◌, ◌/◌, ◌≤◌, ◌<◌}
-use native.Mathlib.Nat.{div-div-eq-div-mul}
+use mathlib.Core.Path.{◌≡◌, ◌∙◌, sym, ap, subst, fun_ext}
+use mathlib.Core.Logic.{⊎_elim}
+use Prim.Native.Nat.{ℕ, suc, ◌*◌, ◌/◌, ◌≤◌, ◌<◌}
+use native.Mathlib.Nat.{mul-le-mul_left, suc-mul, mul-suc, mul_assoc, div-mul-le_self, le-div_iff_mul-le, div-div-eq-div-mul}
 use native.Mathlib.Omega.{arith}
 use Rattle.refusals.specs.Told.{answered}
 use Rattle.nearness.specs.Distance.{distance, InRange}
-use Rattle.nearness.specs.Nearest.{Nearest}
-use Rattle.nearness.proofs.Rows as rows
-use Rattle.i2c.specs.Row.{InRow}
-use Rattle.i2c.specs.Divisors.{calculation, clock, config, Right}
+use Rattle.nearness.specs.Found.{AtTurn, Found}
+use Rattle.nearness.proofs.Distance.{over, le_or_lt}
+use Rattle.i2c.specs.Divisors.{calculation, clock, config, Best, Right}
 use Rattle.i2c.specs.declared.Speed.{Speed}
 use Rattle.i2c.specs.declared.Speed.TheVariants.{Normal100kHz, HighSpeed400KHz}
 
--- the nearest among the first k rows, with the smallest second divisor, and how far off it is
-pub record BestOf (k input target a b deviation : ℕ) : Type 0 where
-  pub nearest : Nearest (clock input) target k 64 a b
-  pub smallest_second : (e : ℕ) → InRange 64 e → distance (clock input a e) target ≡ distance (clock input a b) target → b ≤ e
-  pub off : deviation ≡ distance (clock input a b) target
+-- of the second divisors that are equally near b is the smallest
+abbrev Smallest : (ℕ → ℕ) → ℕ → ℕ → Type 0
+Smallest value target b = (e : ℕ) → InRange 64 e → distance (value e) target ≡ distance (value b) target → b ≤ e
 
-module _ (input target : ℕ) where
-  -- a row of the code, which divides twice, is a row of the definition
-  row : (a : ℕ) {b deviation : ℕ} → InRow (λ e. input / (22 * a) / e) target b deviation → InRow (clock input a) target b deviation
-  row a {b} {deviation} r =
-      subst (λ (value : ℕ → ℕ). InRow value target b deviation) (fun_ext (λ e. div-div-eq-div-mul input (22 * a) e)) r
+module _ (x : ℕ) {target b diff : ℕ} (high : 64 ≤ target) (row : AtTurn (λ e. x / e) target 64 b diff) where
+  -- no two divisors that reach the target give the same frequency
+  strict : (e : ℕ) → target ≤ x / b → 1 ≤ e → e < b → x / b < x / e
+  strict e reaches one l =
+      let v : ℕ = x / b in
+      (le-div_iff_mul-le {x = suc v} {y = x} one).1
+      (omega (arith, row.nearest.second_range.to_largest, mul-le-mul_left v l, mul-suc v e, suc-mul v e, div-mul-le_self x b))
 
-  pub start : {b deviation : ℕ} → InRow (λ e. input / 22 / e) target b deviation → BestOf 1 input target 1 b deviation
-  start r =
-      let r1 = row 1 r in
-      record { nearest = rows.start (clock input) target 64 r1.nearest; smallest_second = r1.smallest_second; off = r1.off }
+  smallest : Smallest (λ e. x / e) target b
+  smallest e r same =
+      ⊎_elim
+      (λ reaches. ⊎_elim (λ le. le)
+      (λ lt. let s : x / b < x / e = strict e reaches r.from_one lt in
+      absurd (omega (arith, over (x / b) target reaches, over (x / e) target (omega arith))))
+      (le_or_lt b e))
+      (λ below. ⊎_elim (λ too_far. absurd (omega (arith, row.nearer below e r too_far))) (λ too. row.first below e r too)
+      (le_or_lt target (x / e)))
+      (le_or_lt target (x / b))
 
-  module _ {k a b deviation b' deviation' : ℕ} (found : BestOf k input target a b deviation) (next : InRow (λ e. input / (22 * (k + 1)) / e) target b' deviation') where
-    pub better : deviation' < deviation → BestOf (k + 1) input target (k + 1) b' deviation'
-    better l =
-        let r = row (k + 1) next in
-        record {
-          nearest = rows.better (clock input) target 64 (omega (arith, found.off, r.off)) r.nearest found.nearest;
-          smallest_second = r.smallest_second;
-          off = r.off;
-        }
+module _ (input : ℕ) where
+  twice : (a : ℕ) → clock input a ≡ (λ e. input / (22 * a) / e)
+  twice a = fun_ext (λ e. sym (div-div-eq-div-mul input (22 * a) e))
 
-    no_nearer : deviation ≤ deviation' → (e0 e1 : ℕ) → k < e0 → InRange (k + 1) e0 → InRange 64 e1
-        → distance (clock input a b) target ≤ distance (clock input e0 e1) target
-    no_nearer l e0 e1 later r0 r1 =
-        let r = row (k + 1) next in
-        let e : e0 ≡ k + 1 = omega arith in
-        rw e (omega (arith, found.off, r.off, r.nearest.nothing_nearer e1 r1))
+  over_22 : (λ a b. input / 22 / (a * b)) ≡ clock input
+  over_22 = fun_ext (λ a. fun_ext (λ b. div-div-eq-div-mul input 22 (a * b) ∙ ap (λ n. input / n) (sym (mul_assoc 22 a b))))
 
-    pub same : deviation ≤ deviation' → BestOf (k + 1) input target a b deviation
-    same l = record {
-      nearest = rows.more (clock input) target 64 (omega arith) (no_nearer l) found.nearest;
-      smallest_second = found.smallest_second;
-      off = found.off;
-    }
-
--- after the last row
-pub done : {k input target a b deviation : ℕ} {speed : Speed} → k ≡ 4 → target ≡ calculation speed → input ≤ 5632 * target
-    → BestOf k input target a b deviation → Right input speed (answered (config a b))
-done {k} {input} {target} {a} {b} {deviation} {speed} last e l found =
-    let all : BestOf 4 input (calculation speed) a b deviation = subst₂ (λ (n t : ℕ). BestOf n input t a b deviation) last e found in
-    Right.found a b (omega arith) (record { nearest = all.nearest; smallest_second = all.smallest_second })
+  best : {target a b : ℕ} → 64 ≤ target → Found (λ a b. input / 22 / (a * b)) target 4 64 a b → Best input target a b
+  best {target} {a} {b} high found =
+      let is : Found (clock input) target 4 64 a b = subst (λ (value : ℕ → ℕ → ℕ). Found value target 4 64 a b) over_22 found in
+      record {
+        nearest = is.nearest;
+        smallest_second =
+            subst (λ (value : ℕ → ℕ). Smallest value target b) (sym (twice a))
+            (smallest (input / (22 * a)) high
+            (subst (λ (value : ℕ → ℕ). AtTurn value target 64 b (distance (clock input a b) target)) (twice a) is.row));
+      }
 
 pub calculation_bounds : (speed : Speed) → (64 ≤ calculation speed) × (calculation speed ≤ 384_600)
 calculation_bounds Normal100kHz = omega arith
 calculation_bounds HighSpeed400KHz = omega arith
+
+pub done : {input target a b : ℕ} {speed : Speed} → target ≡ calculation speed → input ≤ 5632 * target
+    → Found (λ a b. input / 22 / (a * b)) target 4 64 a b → Right input speed (answered (config a b))
+done {input} {target} {a} {b} {speed} e l found =
+    Right.found a b (omega arith)
+    (best input (calculation_bounds speed).0 (subst (λ (n : ℕ). Found (λ a b. input / 22 / (a * b)) n 4 64 a b) e found))

@@ -1,14 +1,16 @@
 -- The I2C divisors, in document 01's words. Every quotient is rounded down.
-use Rattle.std.specs.Prelude.{[], ◌≡◌, ℕ, ◌-◌, ◌*◌, ◌/◌, ◌≤◌, ◌<◌}
+use Rattle.std.specs.Prelude.{[], ◌≡◌, ℕ, ◌-◌, ◌*◌, ◌/◌, ◌≤◌, ◌<◌, Result, Ok, Err}
 use Rattle.refusals.specs.Told.{Told, answered, refused}
 use Rattle.refusals.specs.Number.{SPEED}
+use Rattle.refusals.specs.Refusal.{told as told_of}
+use Rattle.refusals.specs.declared.Refusal.{Refusal}
+use Rattle.refusals.specs.declared.Refusal.TheVariants as refusal
 use Rattle.nearness.specs.Distance.{distance, InRange}
 use Rattle.nearness.specs.Nearest.{Nearest}
 use Rattle.i2c.specs.declared.Speed.{Speed}
 use Rattle.i2c.specs.declared.Speed.TheVariants.{Normal100kHz, HighSpeed400KHz}
 use Rattle.i2c.specs.declared.ClockConfig.{ClockConfig}
-use Rattle.i2c.specs.declared.Divisors.{Divisors}
-use Rattle.i2c.specs.declared.Divisors.TheVariants.{Found, SpeedNotAttainable}
+use Rattle.i2c.specs.declared.SpeedNotAttainable.{SpeedNotAttainable}
 
 -- calculation frequencies 90,000 and 384,600
 abbrev pub calculation : Speed → ℕ
@@ -38,7 +40,11 @@ pub data Right (input : ℕ) (speed : Speed) : Told ClockConfig → Type 0 where
   not_attainable : 5632 * calculation speed < input → Right input speed (refused SPEED [])
   found : (a b : ℕ) → input ≤ 5632 * calculation speed → Best input (calculation speed) a b → Right input speed (answered (config a b))
 
--- document 01's number and values for each case of the answer
-abbrev pub told : Divisors → Told ClockConfig
-told (Found c) = answered c
-told SpeedNotAttainable = refused SPEED []
+-- the refusal that the error is
+abbrev pub refusal_of : SpeedNotAttainable → Refusal
+refusal_of e = refusal.Speed
+
+-- document 01's number and values for each case
+abbrev pub told : Result ClockConfig SpeedNotAttainable → Told ClockConfig
+told (Ok c) = answered c
+told (Err e) = told_of (Err (refusal_of e))

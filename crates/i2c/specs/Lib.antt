@@ -1,2 +1,1 @@
 pub mod Divisors
-pub mod Row

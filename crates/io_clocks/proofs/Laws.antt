@@ -5,7 +5,7 @@ use Prim.Native.Nat.{ℕ, ◌<◌}
 use lib.ListN.{get_or}
 use lib.Seq.{get_or-set_same, get_or-set_other}
 use Rattle.io_clocks.specs.declared.IoClocks.{IoClocks}
-use Rattle.sources.specs.declared.TraceClk.{TraceClk}
+use Rattle.std.proofs.Common.{Option}
 use Rattle.io_clocks.specs.Update.{Updated, frequencies}
 
 module _ {place hertz : ℕ} {before after : IoClocks} (u : Updated place hertz before after) where
@@ -16,7 +16,7 @@ module _ {place hertz : ℕ} {before after : IoClocks} (u : Updated place hertz 
   other_clocks k n = ap (λ (l : List ℕ). get_or l k 0) u.own ∙ get_or-set_other (frequencies before) place k hertz 0 n
 
 -- a record is its frequencies in a row and its trace clock
-from_row : List ℕ → TraceClk → IoClocks
+from_row : List ℕ → Option ℕ → IoClocks
 from_row l trace =
     record {
       ref_clk = get_or l 0 0;

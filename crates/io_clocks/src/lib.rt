@@ -4,8 +4,6 @@
 ghost use Rattle.std.specs.Prelude.{◌≡◌};
 ghost use Rattle.io_clocks.specs.Update.{Updated, SMC, QSPI, SDIO, UART, SPI, CAN, PCAP_2X};
 
-use sources::TraceClk;
-
 #[derive(Clone, Copy)]
 pub struct IoClocks {
     pub ref_clk: u32,
@@ -16,9 +14,11 @@ pub struct IoClocks {
     pub spi_clk: u32,
     pub can_clk: u32,
     pub pcap_2x_clk: u32,
-    pub trace_clk: TraceClk,
+    // None where the trace word selects the EMIO: then the chip gives no clock.
+    pub trace_clk: Option<u32>,
 }
 
+// The getters and updates are the original's interface, each by its name there: document 01 moves the updates as they are.
 impl IoClocks {
     pub fn ref_clk(self) -> u32
         ensures { result ≡ self.ref_clk }
@@ -68,7 +68,7 @@ impl IoClocks {
         self.pcap_2x_clk
     }
 
-    pub fn trace_clk(self) -> TraceClk
+    pub fn trace_clk(self) -> Option<u32>
         ensures { result ≡ self.trace_clk }
     {
         self.trace_clk

@@ -2,9 +2,9 @@
 #![tactic(auto)]
 
 ghost use Rattle.std.specs.Prelude.{◌≡◌, drop};
-ghost use Rattle.registers.specs.Plls.{pll_ctrl, pll_cfg, pll_lock};
-ghost use Rattle.pll_rows.specs.Due.{IsDue};
-ghost use Rattle.pll_rows.specs.Sequence.{seen, with_settings, with_qualifier, with_bypass, sequence};
+ghost use Rattle.registers.specs.Plls.{pll_lock};
+ghost use Rattle.pll_rows.specs.Due.{IsDue, registers_of};
+ghost use Rattle.pll_rows.specs.Sequence.{seen, with_settings, with_bypass, sequence};
 
 use fields::{Field, read_field, set_field};
 use pll_settings::PllConfig;
@@ -27,33 +27,35 @@ pub enum Due {
     End,
 }
 
-pub fn pll_ctrl(pll: PllType) -> u32
-    ensures { result ≡ pll_ctrl pll }
-{
-    match pll {
-        PllType::Arm => registers::ARM_PLL_CTRL as u32,
-        PllType::Ddr => registers::DDR_PLL_CTRL as u32,
-        PllType::Io => registers::IO_PLL_CTRL as u32,
-    }
+// The registers of one PLL: its control and configuration words in the image, and its bit of the status word.
+#[derive(Clone, Copy)]
+pub struct PllRegisters {
+    pub ctrl: u32,
+    pub cfg: u32,
+    pub lock: Field,
 }
 
-fn pll_cfg(pll: PllType) -> u32
-    ensures { result ≡ pll_cfg pll }
-{
-    match pll {
-        PllType::Arm => registers::ARM_PLL_CFG as u32,
-        PllType::Ddr => registers::DDR_PLL_CFG as u32,
-        PllType::Io => registers::IO_PLL_CFG as u32,
-    }
-}
+impl From<PllType> for PllRegisters {
+    ghost from_gives = { λ pll r. r ≡ registers_of pll };
 
-fn pll_lock(pll: PllType) -> Field
-    ensures { result ≡ pll_lock pll }
-{
-    match pll {
-        PllType::Arm => registers::ARM_LOCK,
-        PllType::Ddr => registers::DDR_LOCK,
-        PllType::Io => registers::IO_LOCK,
+    fn from(pll: PllType) -> PllRegisters {
+        match pll {
+            PllType::Arm => PllRegisters {
+                ctrl: registers::ARM_PLL_CTRL as u32,
+                cfg: registers::ARM_PLL_CFG as u32,
+                lock: registers::ARM_LOCK,
+            },
+            PllType::Ddr => PllRegisters {
+                ctrl: registers::DDR_PLL_CTRL as u32,
+                cfg: registers::DDR_PLL_CFG as u32,
+                lock: registers::DDR_LOCK,
+            },
+            PllType::Io => PllRegisters {
+                ctrl: registers::IO_PLL_CTRL as u32,
+                cfg: registers::IO_PLL_CFG as u32,
+                lock: registers::IO_LOCK,
+            },
+        }
     }
 }
 
@@ -61,48 +63,48 @@ fn pll_lock(pll: PllType) -> Field
 pub fn locked(pll: PllType, status: u32) -> bool
     ensures { result ≡ seen status (pll_lock pll) }
 {
-    read_field(status, pll_lock(pll)) == 1
+    read_field(status, PllRegisters::from(pll).lock) == 1
 }
 
 fn with_settings(config: PllConfig, word: u32) -> u32
     ensures { result ≡ with_settings config word }
 {
-    let a = set_field(word, registers::CHARGE_PUMP, config.charge_pump as u32);
-    let b = set_field(a, registers::LOOP_RESISTOR, config.loop_resistor as u32);
-    set_field(b, registers::LOCK_COUNT, config.lock_count as u32)
+    let word = set_field(word, registers::CHARGE_PUMP, u32::from(config.charge_pump));
+    let word = set_field(
+        word,
+        registers::LOOP_RESISTOR,
+        u32::from(config.loop_resistor),
+    );
+    set_field(word, registers::LOCK_COUNT, u32::from(config.lock_count))
 }
 
-fn with_qualifier(bypassed: bool, word: u32) -> u32
-    ensures { result ≡ with_qualifier bypassed word }
-{
-    if bypassed {
-        set_field(word, registers::BYPASS_QUAL, 0)
-    } else {
-        word
-    }
-}
-
+// The bypass qualifier is cleared only where the PLLs were booted bypassed.
 fn with_bypass(bypassed: bool, word: u32) -> u32
     ensures { result ≡ with_bypass bypassed word }
 {
-    let a = with_qualifier(bypassed, word);
-    let b = set_field(a, registers::BYPASS_FORCE, 1);
-    set_field(b, registers::PWRDWN, 0)
+    let word = if bypassed {
+        set_field(word, registers::BYPASS_QUAL, 0)
+    } else {
+        word
+    };
+    let word = set_field(word, registers::BYPASS_FORCE, 1);
+    set_field(word, registers::PWRDWN, 0)
 }
 
-// The row that is due once so many are done, where `word` is the word last read or written.
+// The row that is due once so many are done, where `word` is the word last read or written. The place is a number and no enum, since a
+// host's run carries it through C.
 pub fn row(plan: PllPlan, at: u8, word: u32) -> Due
     ensures { IsDue (drop at (sequence plan)) word result }
 {
-    let pll = plan.pll;
-    let config = plan.config;
-    let ctrl = pll_ctrl(pll);
-    let cfg = pll_cfg(pll);
+    let PllRegisters { ctrl, cfg, .. } = PllRegisters::from(plan.pll);
     match at {
         0 => Due::Read(ctrl),
-        1 => Due::Write(ctrl, set_field(word, registers::FDIV, config.fdiv as u32)),
+        1 => Due::Write(
+            ctrl,
+            set_field(word, registers::FDIV, u32::from(plan.config.fdiv)),
+        ),
         2 => Due::Read(cfg),
-        3 => Due::Write(cfg, with_settings(config, word)),
+        3 => Due::Write(cfg, with_settings(plan.config, word)),
         4 => Due::Read(ctrl),
         5 => Due::Write(ctrl, with_bypass(plan.bypassed, word)),
         6 => Due::Read(ctrl),

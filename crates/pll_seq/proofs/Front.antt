@@ -5,8 +5,7 @@ use mathlib.Core.Path.{◌≡◌, refl, sym, ap, subst, ◌∙◌}
 use mathlib.Core.List.{List, [], ◌∷◌, map}
 use lib.ListN.{length, set, length-map}
 use Rattle.pll_rows.specs.Sequence.{Access}
-use Rattle.pll_seq.specs.Record.{Rows, rows, over, written, Room}
-use Rattle.pll_seq.specs.Moves.{stored}
+use Rattle.pll_seq.specs.Record.{Rows, rows, stored, over, written, Room}
 
 abbrev pub stored_all : ℕ → List Access → Rows → Rows
 stored_all n [] r = r

@@ -2,4 +2,5 @@ pub mod Few
 pub mod Front
 pub mod Moved
 pub mod ToCome
+pub mod Turning
 pub mod Unique

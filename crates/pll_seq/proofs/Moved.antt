@@ -5,12 +5,8 @@ use native.Mathlib.Omega.{arith}
 use mathlib.Core.Path.{◌≡◌, refl, sym, ap, subst, ◌∙◌}
 use lib.ListN.{length, length-set}
 use Rattle.pll_rows.specs.Sequence.{Access, Ending, Log, after, ends}
-use Rattle.pll_seq.specs.declared.Ran.{Ran}
-use Rattle.pll_seq.specs.declared.Spot.{Spot}
-use Rattle.pll_seq.specs.declared.Went.{Went}
-use Rattle.pll_seq.specs.declared.Went.TheVariants.{On, Over}
-use Rattle.pll_seq.specs.Record.{Rows, Room, written, ending}
-use Rattle.pll_seq.specs.Moves.{stored, Moves, here, on, Enough, Goes, goes, is_over}
+use Rattle.pll_seq.specs.Record.{Rows, Room, stored, written}
+use Rattle.pll_seq.specs.Moves.{Moves, here, on, Enough}
 use Rattle.pll_seq.proofs.Front.{stored_all, in_front}
 
 abbrev len : Log → ℕ
@@ -101,20 +97,8 @@ module _ {l k rest : Log} {n m : ℕ} {before now : Rows} {a : Access} (g : Goin
   pub goes_on : {then : Rows} → then ≡ stored m a now → Going l n before rest (m + 1) then
   goes_on is = going g.room (on g.moves e refl is)
 
+pub goes_as : {l k j : Log} {n m : ℕ} {before now : Rows} → Going l n before k m now → k ≡ j → Going l n before j m now
+goes_as {l} {n} {m} {before} {now} g e = subst (λ (k : Log). Going l n before k m now) e g
+
 pub arrives : {l k j : Log} {n m : ℕ} {before now : Rows} → Going l n before k m now → k ≡ j → Moves l n before j m now
 arrives {l} {n} {m} {before} {now} g e = subst (λ (k : Log). Moves l n before k m now) e g.moves
-
--- ---- how a part went
-
-module _ {l : Log} {n : ℕ} {before : Rows} {rest : ℕ → Log} {now : Rows} {w : Went} (h : Goes l n before rest now w) where
-  pub went_on : {s : Spot} → w ≡ On s → Moves l n before (rest s.used) s.count now
-  went_on {s} e = by (subst (Goes l n before rest now) e h)
-    where
-      by : Goes l n before rest now (On s) → Moves l n before (rest s.used) s.count now
-      by (goes moves) = moves
-
-  pub went_over : {r : Ran} → w ≡ Over r → Moves l n before (ends (ending r.end)) r.accesses now
-  went_over {r} e = by (subst (Goes l n before rest now) e h)
-    where
-      by : Goes l n before rest now (Over r) → Moves l n before (ends (ending r.end)) r.accesses now
-      by (is_over moves) = moves

@@ -4,13 +4,14 @@ use mathlib.Core.Path.{◌≡◌, refl, sym, ap, ◌∙◌}
 use mathlib.Core.Logic.{⊎_elim}
 use mathlib.Core.List.{List, [], ◌∷◌}
 use native.Mathlib.Omega.{arith}
+use Rattle.std.specs.Prelude.{Result, Ok, Err}
 use Rattle.refusals.specs.Told.{Told, answered, refused}
 use Rattle.pll_rows.specs.declared.PllPlan.{PllPlan}
 use Rattle.pll_rows.specs.Sequence.{Ending, locked, timed_out, starved}
 use Rattle.pll_seq.specs.declared.End.{End}
 use Rattle.pll_seq.specs.declared.End.TheVariants.{Locked, TimedOut, Starved}
-use Rattle.pll_seq.specs.declared.Outcome.{Outcome}
-use Rattle.pll_seq.specs.declared.Outcome.TheVariants.{Ran, NoRoom}
+use Rattle.pll_seq.specs.declared.NoRoom.{NoRoom}
+use Rattle.pll_seq.specs.declared.Ran.{Ran}
 use Rattle.pll_seq.specs.Record.{Rows, Room, Short, Ended, ending, told, Recorded, no_room, recorded}
 
 not_both : {n : ℕ} {r : Rows} → Short n r → Room n r → ⊥
@@ -29,10 +30,10 @@ end_of locked = Locked
 end_of timed_out = TimedOut
 end_of starved = Starved
 
-answer_of : Told Ended → Outcome
-answer_of (answered e) = Ran (record { accesses = e.accesses; end = end_of e.end })
-answer_of (refused n []) = NoRoom n
-answer_of (refused n (m ∷ ns)) = NoRoom m
+answer_of : Told Ended → Result Ran NoRoom
+answer_of (answered e) = Ok (record { accesses = e.accesses; end = end_of e.end })
+answer_of (refused n []) = Err (record { needed = n })
+answer_of (refused n (m ∷ ns)) = Err (record { needed = m })
 
 again_end : (e : End) → end_of (ending e) ≡ e
 unfolding end_of
@@ -40,10 +41,10 @@ again_end Locked = refl
 again_end TimedOut = refl
 again_end Starved = refl
 
-again : (x : Outcome) → answer_of (told x) ≡ x
+again : (x : Result Ran NoRoom) → answer_of (told x) ≡ x
 unfolding answer_of
-again (Ran r) = ap (λ (e : End). Ran (record { accesses = r.accesses; end = e })) (again_end r.end)
-again (NoRoom n) = refl
+again (Ok r) = ap (λ (e : End). Ok (record { accesses = r.accesses; end = e })) (again_end r.end)
+again (Err e) = refl
 
-pub one_answer : (x y : Outcome) → told x ≡ told y → x ≡ y
+pub one_answer : (x y : Result Ran NoRoom) → told x ≡ told y → x ≡ y
 one_answer x y e = sym (again x) ∙ ap answer_of e ∙ again y

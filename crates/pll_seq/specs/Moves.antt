@@ -1,12 +1,11 @@
 -- What the parts of the recording promise one another: what is still to come, how many accesses are recorded, and the rows so far.
-use Rattle.std.specs.Prelude.{ℕ, ◌+◌, ◌≡◌, List, length, drop, set}
+use Rattle.std.specs.Prelude.{ℕ, ◌+◌, ◌≡◌, List, length, drop, Result, MatchResult}
 use Rattle.pll_rows.specs.declared.PllPlan.{PllPlan}
-use Rattle.pll_rows.specs.Sequence.{Access, Log, after, ends, log, sequence}
-use Rattle.pll_seq.specs.declared.Ran.{Ran}
-use Rattle.pll_seq.specs.declared.Spot.{Spot}
-use Rattle.pll_seq.specs.declared.Went.{Went}
-use Rattle.pll_seq.specs.declared.Went.TheVariants.{On, Over}
-use Rattle.pll_seq.specs.Record.{Rows, rows, Room, ending}
+use Rattle.pll_rows.specs.Sequence.{Access, Log, locked, after, ends, log, sequence}
+use Rattle.pll_seq.specs.declared.End.{End}
+use Rattle.pll_seq.specs.declared.recorder.Recorder.{Recorder}
+use Rattle.pll_seq.specs.Record.{Rows, Room, stored, ending}
+use Rattle.pll_seq.specs.Recorder.{rows_of}
 
 -- what is to come where so many rows are done, n polls are left, and w is the word last read or written
 unfoldable pub to_come : PllPlan → ℕ → ℕ → ℕ → List ℕ → Log
@@ -23,9 +22,9 @@ to_poll plan n words = to_come plan 9 n 0 words
 abbrev pub to_close : PllPlan → List ℕ → Log
 to_close plan words = to_come plan 10 0 0 words
 
--- the rows with an access as record n
-abbrev pub stored : ℕ → Access → Rows → Rows
-stored n a r = rows (set r.kinds n a.kind) (set r.numbers n a.number) (set r.values n a.value)
+-- nothing, whatever words are left
+abbrev pub locks : List ℕ → Log
+locks words = ends locked
 
 -- At first l is to come, n accesses are recorded and the rows are `before`; one after the other is recorded.
 pub data Moves (l : Log) (n : ℕ) (before : Rows) : Log → ℕ → Rows → Type 0 where
@@ -37,7 +36,10 @@ pub data Moves (l : Log) (n : ℕ) (before : Rows) : Log → ℕ → Rows → Ty
 abbrev pub Enough : Log → ℕ → Rows → Type 0
 Enough l n r = Room (n + length l.accesses) r
 
--- A part goes on to what comes after it, given how many words are used, or the run is over.
-pub data Goes (l : Log) (n : ℕ) (before : Rows) (rest : ℕ → Log) (now : Rows) : Went → Type 0 where
-  goes : {s : Spot} → Moves l n before (rest s.used) s.count now → Goes l n before rest now (On s)
-  is_over : {r : Ran} → Moves l n before (ends (ending r.end)) r.accesses now → Goes l n before rest now (Over r)
+-- the same of a recorder
+abbrev pub Turns : Log → Recorder → Log → Recorder → Type 0
+Turns l before k now = Moves l before.count (rows_of before) k now.count (rows_of now)
+
+-- A part goes on to what comes after it, given the words that are left, or the run is over.
+abbrev pub Goes : Log → Recorder → (List ℕ → Log) → Recorder → Result (Unit {0}) End → Type 0
+Goes l before rest now r = MatchResult r (λ _. Turns l before (rest now.words.now) now) (λ e. Turns l before (ends (ending e)) now)

@@ -1,14 +1,18 @@
 -- A whole run over the words that a host would return, recorded in three lent rows: the accesses of document 01's list, one after the
 -- other, and every later record as it was. How it ended, a timeout too, is an answer. Rows that could be too short are refused with 9.
-use Rattle.std.specs.Prelude.{ℕ, ◌+◌, ◌≤◌, ◌<◌, ◌⊎◌, List, [], ◌∷◌, ◌++◌, map, length, drop}
+use Rattle.std.specs.Prelude.{ℕ, zero, suc, ◌+◌, ◌≤◌, ◌<◌, ◌⊎◌, List, [], ◌∷◌, ◌++◌, map, length, drop, min, set, Result, Ok, Err}
 use Rattle.refusals.specs.Told.{Told, answered, refused}
 use Rattle.refusals.specs.Number.{NO_ROOM}
+use Rattle.refusals.specs.declared.Refusal.{Refusal}
+use Rattle.refusals.specs.declared.Refusal.TheVariants as refusals
 use Rattle.pll_rows.specs.declared.PllPlan.{PllPlan}
 use Rattle.pll_rows.specs.Sequence.{Access, Ending, locked, timed_out, starved, accesses_of}
 use Rattle.pll_seq.specs.declared.End.{End}
 use Rattle.pll_seq.specs.declared.End.TheVariants.{Locked, TimedOut, Starved}
-use Rattle.pll_seq.specs.declared.Outcome.{Outcome}
-use Rattle.pll_seq.specs.declared.Outcome.TheVariants.{Ran, NoRoom}
+use Rattle.pll_seq.specs.declared.NoRoom.{NoRoom}
+use Rattle.pll_seq.specs.declared.Ran.{Ran}
+use Rattle.pll_seq.specs.declared.recorder.Kind.{Kind}
+use Rattle.pll_seq.specs.declared.recorder.Kind.TheVariants.{Read, Write}
 
 -- ---- the rows
 
@@ -19,6 +23,19 @@ pub record Rows : Type 0 where
 
 abbrev pub rows : List ℕ → List ℕ → List ℕ → Rows
 rows k n v = record { kinds = k; numbers = n; values = v }
+
+-- the rows with an access as record n
+abbrev pub stored : ℕ → Access → Rows → Rows
+stored n a r = rows (set r.kinds n a.kind) (set r.numbers n a.number) (set r.values n a.value)
+
+abbrev pub number_of : Kind → ℕ
+number_of Read = 0
+number_of Write = 1
+
+-- every number but 0 is a write's
+abbrev pub kind_of : ℕ → Kind
+kind_of zero = Read
+kind_of (suc n) = Write
 
 -- the row with xs over its first records
 abbrev pub over : List ℕ → List ℕ → List ℕ
@@ -55,9 +72,13 @@ ending Locked = locked
 ending TimedOut = timed_out
 ending Starved = starved
 
-abbrev pub told : Outcome → Told Ended
-told (Ran r) = answered (record { end = ending r.end; accesses = r.accesses })
-told (NoRoom n) = refused NO_ROOM (n ∷ [])
+-- as far as 32 bits go
+abbrev pub refusal_of : NoRoom → Refusal
+refusal_of e = refusals.NoRoom (min e.needed 4294967295)
+
+abbrev pub told : Result Ran NoRoom → Told Ended
+told (Ok r) = answered (record { end = ending r.end; accesses = r.accesses })
+told (Err e) = refused NO_ROOM (e.needed ∷ [])
 
 -- The rows before, the rows after, and what is told.
 pub data Recorded (plan : PllPlan) (limit : ℕ) (words : List ℕ) (before : Rows) : Rows → Told Ended → Type 0 where

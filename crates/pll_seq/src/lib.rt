@@ -3,19 +3,20 @@
 // loop of a fixed length, which the compiler unrolls; a loop over all rows, or over steps, is not.
 #![tactic(auto)]
 
-mod whole;
+mod parts;
+mod recorder;
 
-ghost use Rattle.std.specs.Prelude.{◌+◌, ◌≡◌, drop};
-ghost use Rattle.pll_rows.specs.Sequence.{ends};
-ghost use Rattle.pll_seq.specs.Record.{rows, Room, ending};
-ghost use Rattle.pll_seq.specs.Moves.{stored, Moves, Enough, whole, to_poll, to_close, Goes};
+ghost use Rattle.std.specs.Prelude.{◌≡◌};
+ghost use Rattle.pll_seq.specs.Record.{rows, refusal_of, told, Recorded};
 
-use fields::set_field;
-use pll_rows::{Due, PllPlan, locked, pll_ctrl, row};
-pub use whole::run;
+use parts::record;
+use pll_rows::PllPlan;
+pub use recorder::Kind;
+use recorder::Recorder;
+use refusals::Refusal;
 
 // Locked: the bit was seen and the bypass released. TimedOut: every poll that is allowed showed the bit clear. Starved: the words ran out.
-#[derive(Clone, Copy)]
+#[derive(Clone, Copy, PartialEq, Eq)]
 pub enum End {
     Locked,
     TimedOut,
@@ -28,148 +29,49 @@ pub struct Ran {
     pub end: End,
 }
 
-// NoRoom has how many records each of the rows must hold.
-#[derive(Clone, Copy)]
-pub enum Outcome {
-    Ran(Ran),
-    NoRoom(usize),
+// How many records each of the rows must hold.
+// The three rows of a run are short here, and records in uart_list: one error for both would say neither.
+#[derive(Clone, Copy, PartialEq, Eq)]
+pub struct NoRoom {
+    pub needed: usize,
 }
 
-// How many words the host has returned, and how many accesses are recorded.
-#[derive(Clone, Copy)]
-struct Spot {
-    used: usize,
-    count: usize,
+// What is carried has 32 bits, and a length may have more: it is at most the largest of them.
+impl From<NoRoom> for Refusal {
+    ghost from_gives = { λ e r. r ≡ refusal_of e };
+
+    fn from(e: NoRoom) -> Refusal {
+        Refusal::NoRoom(u32::try_from(e.needed).unwrap_or(u32::MAX))
+    }
 }
 
-#[derive(Clone, Copy)]
-enum Went {
-    On(Spot),
-    Over(Ran),
-}
-
-// Records an access: kind 0 is a read and 1 a write.
-fn put(
-    kind: u32,
-    number: u32,
-    value: u32,
-    at: usize,
-    kinds: &mut [u32],
-    numbers: &mut [u32],
-    values: &mut [u32],
-)
-    requires { Room (at + 1) (rows kinds.old numbers.old values.old) }
-    ensures { (rows kinds.new numbers.new values.new) ≡ stored at (record { kind = kind; number = number; value = value }) (rows kinds.old numbers.old values.old) }
-{
-    kinds[at] = kind;
-    numbers[at] = number;
-    values[at] = value;
-}
-
-// Each row before the polls is one access: so many are recorded as rows are done.
-fn record_opening(
+// The accesses are reads, one a word, and at most six writes: rows that hold so many are asked for, and shorter ones are left alone. A
+// limit of 0 times out before the first poll, and a setting too wide for its field never reaches the other bits; no start gives either.
+// The three rows come one by one, as a host in C lends them.
+pub fn run(
     plan: PllPlan,
     limit: u16,
     words: &[u32],
     kinds: &mut [u32],
     numbers: &mut [u32],
     values: &mut [u32],
-) -> Went
-    requires { Enough (whole plan limit words.now) 0 (rows kinds.old numbers.old values.old) }
-    ensures { Goes (whole plan limit words.now) 0 (rows kinds.old numbers.old values.old) (λ used. to_poll plan limit (drop used words.now)) (rows kinds.new numbers.new values.new) result }
+) -> Result<Ran, NoRoom>
+    ensures { Recorded plan limit words.now (rows kinds.old numbers.old values.old) (rows kinds.new numbers.new values.new) (told result) }
 {
-    let mut word: u32 = 0;
-    let mut used: usize = 0;
-    let mut count: usize = 0;
-    while count < 9 {
-        match row(plan, count as u8, word) {
-            Due::Read(number) => {
-                if used >= words.len() {
-                    let end = End::Starved;
-                    let accesses = count;
-                    return Went::Over(Ran { accesses, end });
-                }
-                word = words[used];
-                put(0, number, word, count, kinds, numbers, values);
-                used += 1;
-                count += 1;
-            }
-            Due::Write(number, value) => {
-                word = value;
-                put(1, number, value, count, kinds, numbers, values);
-                count += 1;
-            }
-            _ => break,
-        }
+    let needed = words.len() + 6;
+    if kinds.len() < needed || numbers.len() < needed || values.len() < needed {
+        return Err(NoRoom { needed });
     }
-    Went::On(Spot { used, count })
-}
-
-// The polls, up to the one that shows the lock.
-fn record_polls(
-    plan: PllPlan,
-    limit: u16,
-    from: Spot,
-    words: &[u32],
-    kinds: &mut [u32],
-    numbers: &mut [u32],
-    values: &mut [u32],
-) -> Went
-    requires { Enough (to_poll plan limit (drop from.used words.now)) from.count (rows kinds.old numbers.old values.old) }
-    ensures { Goes (to_poll plan limit (drop from.used words.now)) from.count (rows kinds.old numbers.old values.old) (λ used. to_close plan (drop used words.now)) (rows kinds.new numbers.new values.new) result }
-{
-    let status = registers::PLL_STATUS as u32;
-    let mut used = from.used;
-    let mut count = from.count;
-    let mut polls = limit;
-    while polls > 0 {
-        if used >= words.len() {
-            let end = End::Starved;
-            let accesses = count;
-            return Went::Over(Ran { accesses, end });
-        }
-        let word = words[used];
-        put(0, status, word, count, kinds, numbers, values);
-        polls -= 1;
-        used += 1;
-        count += 1;
-        let pll = plan.pll;
-        if locked(pll, word) {
-            return Went::On(Spot { used, count });
-        }
-    }
-    let end = End::TimedOut;
-    let accesses = count;
-    Went::Over(Ran { accesses, end })
-}
-
-// The two rows after the polls.
-fn record_closing(
-    plan: PllPlan,
-    from: Spot,
-    words: &[u32],
-    kinds: &mut [u32],
-    numbers: &mut [u32],
-    values: &mut [u32],
-) -> Ran
-    requires { Enough (to_close plan (drop from.used words.now)) from.count (rows kinds.old numbers.old values.old) }
-    ensures { Moves (to_close plan (drop from.used words.now)) from.count (rows kinds.old numbers.old values.old) (ends (ending result.end)) result.accesses (rows kinds.new numbers.new values.new) }
-{
-    let used = from.used;
-    let count = from.count;
-    if used >= words.len() {
-        let end = End::Starved;
-        let accesses = count;
-        return Ran { accesses, end };
-    }
-    let word = words[used];
-    let pll = plan.pll;
-    let ctrl = pll_ctrl(pll);
-    put(0, ctrl, word, count, kinds, numbers, values);
-    let value = set_field(word, registers::BYPASS_FORCE, 0);
-    let count = count + 1;
-    put(1, ctrl, value, count, kinds, numbers, values);
-    let end = End::Locked;
-    let accesses = count + 1;
-    Ran { accesses, end }
+    let mut recorder = Recorder {
+        words,
+        kinds,
+        numbers,
+        values,
+        count: 0,
+    };
+    let end = record(plan, limit, &mut recorder);
+    Ok(Ran {
+        accesses: recorder.count,
+        end,
+    })
 }

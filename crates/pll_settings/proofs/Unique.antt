@@ -7,12 +7,13 @@ use Prim.Native.Nat.{ℕ, ◌≤◌, ◌<◌}
 use native.Mathlib.Nat.{le_trans}
 use native.Mathlib.Omega.{arith}
 use lib.Dec.{T, leb, eqb, leb→le, le→leb, eqb→eq}
+use Rattle.std.specs.Prelude.{Result, Ok, Err}
 use Rattle.refusals.specs.Told.{Told, answered}
 use Rattle.tables.specs.Table.{◌∈◌, all}
 use Rattle.tables.proofs.Table.{both, and, given, of_all}
 use Rattle.pll_settings.specs.declared.PllConfig.{PllConfig}
-use Rattle.pll_settings.specs.declared.PllSetting.{PllSetting}
-use Rattle.pll_settings.specs.declared.PllSetting.TheVariants.{Found, ZeroInput, MulRange}
+use Rattle.pll_settings.specs.declared.PllSettingError.{PllSettingError}
+use Rattle.pll_settings.specs.declared.PllSettingError.TheVariants.{ZeroInput, MulRange}
 use Rattle.pll_settings.specs.Settings.{Row, rows, config, Right, out_of_range, by_row, RightTarget, no_crystal, by_multiplier, told}
 
 abbrev same : Row → Row → Bool
@@ -58,13 +59,13 @@ unique_target (by_multiplier h r) (no_crystal g) = absurd (omega arith)
 unique_target (by_multiplier h r) (by_multiplier g s) = unique r s
 
 -- the answer itself, and not only what it tells, is settled
-pub one_answer : (x y : PllSetting) → told x ≡ told y → x ≡ y
-one_answer (Found c) (Found d) e = cc
-one_answer (Found c) ZeroInput e = cc
-one_answer (Found c) (MulRange m) e = cc
-one_answer ZeroInput (Found d) e = cc
-one_answer ZeroInput ZeroInput e = refl
-one_answer ZeroInput (MulRange m) e = cc
-one_answer (MulRange n) (Found d) e = cc
-one_answer (MulRange n) ZeroInput e = cc
-one_answer (MulRange n) (MulRange m) e = cc
+pub one_answer : (x y : Result PllConfig PllSettingError) → told x ≡ told y → x ≡ y
+one_answer (Ok c) (Ok d) e = cc
+one_answer (Ok c) (Err ZeroInput) e = cc
+one_answer (Ok c) (Err (MulRange m)) e = cc
+one_answer (Err ZeroInput) (Ok d) e = cc
+one_answer (Err ZeroInput) (Err ZeroInput) e = refl
+one_answer (Err ZeroInput) (Err (MulRange m)) e = cc
+one_answer (Err (MulRange n)) (Ok d) e = cc
+one_answer (Err (MulRange n)) (Err ZeroInput) e = cc
+one_answer (Err (MulRange n)) (Err (MulRange m)) e = cc

@@ -1,11 +1,14 @@
 -- The settings of a PLL, as document 01 has them: its rows by multiplier, and the two ways to ask for one.
-use Rattle.std.specs.Prelude.{ℕ, ◌≤◌, ◌<◌, ◌/◌, List, [], ◌∷◌, ◌≡◌, ◌⊎◌}
+use Rattle.std.specs.Prelude.{ℕ, ◌≤◌, ◌<◌, ◌/◌, List, [], ◌∷◌, ◌≡◌, ◌⊎◌, Result, Ok, Err}
 use Rattle.refusals.specs.Told.{Told, answered, refused}
 use Rattle.refusals.specs.Number.{ZERO_INPUT, MUL_RANGE}
+use Rattle.refusals.specs.Refusal.{number_of, carried_by, listed}
+use Rattle.refusals.specs.declared.Refusal.{Refusal}
+use Rattle.refusals.specs.declared.Refusal.TheVariants as Refuse
 use Rattle.tables.specs.Table.{◌∈◌}
 use Rattle.pll_settings.specs.declared.PllConfig.{PllConfig}
-use Rattle.pll_settings.specs.declared.PllSetting.{PllSetting}
-use Rattle.pll_settings.specs.declared.PllSetting.TheVariants.{Found, ZeroInput, MulRange}
+use Rattle.pll_settings.specs.declared.PllSettingError.{PllSettingError}
+use Rattle.pll_settings.specs.declared.PllSettingError.TheVariants.{ZeroInput, MulRange}
 
 -- A row is for the multipliers from first to last.
 pub record Row : Type 0 where
@@ -60,7 +63,11 @@ pub data RightTarget (crystal target : ℕ) : Told PllConfig → Type 0 where
   no_crystal : crystal ≡ 0 → RightTarget crystal target (refused ZERO_INPUT [])
   by_multiplier : {answer : Told PllConfig} → 0 < crystal → Right (target / crystal) answer → RightTarget crystal target answer
 
-abbrev pub told : PllSetting → Told PllConfig
-told (Found c) = answered c
-told ZeroInput = refused ZERO_INPUT []
-told (MulRange m) = refused MUL_RANGE (m ∷ [])
+-- which refusal an error is
+abbrev pub refusal_of : PllSettingError → Refusal
+refusal_of ZeroInput = Refuse.ZeroInput
+refusal_of (MulRange m) = Refuse.MulRange m
+
+abbrev pub told : Result PllConfig PllSettingError → Told PllConfig
+told (Ok c) = answered c
+told (Err e) = refused (number_of (refusal_of e)) (listed (carried_by (refusal_of e)))

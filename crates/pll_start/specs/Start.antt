@@ -1,7 +1,9 @@
 -- Starting the sequence: document 01's refusals 12, then 20, then 13, and the marks.
-use Rattle.std.specs.Prelude.{ℕ, Bool, true, cond, ◌&&◌, eqb, leb, []}
+use Rattle.std.specs.Prelude.{ℕ, Bool, true, cond, ◌&&◌, eqb, leb, [], Result, Ok, Err}
 use Rattle.refusals.specs.Told.{Told, answered, refused}
 use Rattle.refusals.specs.Number.{BAD_LIMIT, BAD_FIELD, ALREADY}
+use Rattle.refusals.specs.declared.Refusal.{Refusal}
+use Rattle.refusals.specs.declared.Refusal.TheVariants as refusals
 use Rattle.registers.specs.declared.PllType.{PllType}
 use Rattle.registers.specs.declared.PllType.TheVariants.{Arm, Ddr, Io}
 use Rattle.pll_settings.specs.declared.PllConfig.{PllConfig}
@@ -9,15 +11,20 @@ use Rattle.pll_rows.specs.declared.PllPlan.{PllPlan}
 use Rattle.pll_step.specs.declared.PllSequence.{PllSequence}
 use Rattle.pll_step.specs.Step.{place}
 use Rattle.pll_start.specs.declared.PllMarks.{PllMarks}
-use Rattle.pll_start.specs.declared.Start.{Start}
-use Rattle.pll_start.specs.declared.Start.TheVariants.{Run, BadLimit, BadField, Already}
+use Rattle.pll_start.specs.declared.StartError.{StartError}
+use Rattle.pll_start.specs.declared.StartError.TheVariants.{BadLimit, BadField, Already}
 use Rattle.pll_start.specs.declared.Started.{Started}
 
-abbrev pub told : Start → Told PllSequence
-told (Run s) = answered s
-told BadLimit = refused BAD_LIMIT []
-told BadField = refused BAD_FIELD []
-told Already = refused ALREADY []
+abbrev pub refusal_of : StartError → Refusal
+refusal_of BadLimit = refusals.BadLimit
+refusal_of BadField = refusals.BadField
+refusal_of Already = refusals.Already
+
+abbrev pub told : Result PllSequence StartError → Told PllSequence
+told (Ok s) = answered s
+told (Err BadLimit) = refused BAD_LIMIT []
+told (Err BadField) = refused BAD_FIELD []
+told (Err Already) = refused ALREADY []
 
 -- ---- a setting and its fields
 

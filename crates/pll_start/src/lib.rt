@@ -2,11 +2,12 @@
 #![tactic(auto)]
 
 ghost use Rattle.std.specs.Prelude.{◌≡◌};
-ghost use Rattle.pll_start.specs.Start.{fits, marked, mark, told, told_once, start, once};
+ghost use Rattle.pll_start.specs.Start.{refusal_of, fits, marked, mark, told, told_once, start, once};
 
 use pll_rows::PllPlan;
 use pll_settings::PllConfig;
 use pll_step::{Place, PllSequence};
+use refusals::Refusal;
 use registers::PllType;
 
 // Which PLLs have been started.
@@ -17,17 +18,52 @@ pub struct PllMarks {
     pub io: bool,
 }
 
-#[derive(Clone, Copy)]
-pub enum Start {
-    Run(PllSequence),
+impl PllMarks {
+    fn marked(self, pll: PllType) -> bool
+        ensures { result ≡ marked pll self }
+    {
+        match pll {
+            PllType::Arm => self.arm,
+            PllType::Ddr => self.ddr,
+            PllType::Io => self.io,
+        }
+    }
+
+    fn mark(self, pll: PllType) -> PllMarks
+        ensures { result ≡ mark pll self }
+    {
+        match pll {
+            PllType::Arm => PllMarks { arm: true, ..self },
+            PllType::Ddr => PllMarks { ddr: true, ..self },
+            PllType::Io => PllMarks { io: true, ..self },
+        }
+    }
+}
+
+// A limit of 0 polls, a setting too wide for its field, and a PLL that has a start already.
+#[derive(Clone, Copy, PartialEq, Eq)]
+pub enum StartError {
     BadLimit,
     BadField,
     Already,
 }
 
+impl From<StartError> for Refusal {
+    ghost from_gives = { λ e r. r ≡ refusal_of e };
+
+    fn from(e: StartError) -> Refusal {
+        match e {
+            StartError::BadLimit => Refusal::BadLimit,
+            StartError::BadField => Refusal::BadField,
+            StartError::Already => Refusal::Already,
+        }
+    }
+}
+
+// The marks come back by value on a refusal too, as a host in C keeps them.
 #[derive(Clone, Copy)]
 pub struct Started {
-    pub start: Start,
+    pub start: Result<PllSequence, StartError>,
     pub marks: PllMarks,
 }
 
@@ -35,84 +71,49 @@ pub struct Started {
 pub fn fits(config: PllConfig) -> bool
     ensures { result ≡ fits config }
 {
-    if config.fdiv > 127 {
-        return false;
-    }
-    if config.charge_pump > 15 {
-        return false;
-    }
-    if config.loop_resistor > 15 {
-        return false;
-    }
-    config.lock_count <= 1023
-}
-
-fn marked(pll: PllType, marks: PllMarks) -> bool
-    ensures { result ≡ marked pll marks }
-{
-    match pll {
-        PllType::Arm => marks.arm,
-        PllType::Ddr => marks.ddr,
-        PllType::Io => marks.io,
-    }
-}
-
-fn mark(pll: PllType, marks: PllMarks) -> PllMarks
-    ensures { result ≡ mark pll marks }
-{
-    let mut after = marks;
-    match pll {
-        PllType::Arm => after.arm = true,
-        PllType::Ddr => after.ddr = true,
-        PllType::Io => after.io = true,
-    }
-    after
+    config.fdiv <= 127
+        && config.charge_pump <= 15
+        && config.loop_resistor <= 15
+        && config.lock_count <= 1023
 }
 
 // Starts a run whatever was started before, and marks nothing.
-pub fn configure_pll_unchecked(plan: PllPlan, limit: u16) -> Start
+pub fn configure_pll_unchecked(plan: PllPlan, limit: u16) -> Result<PllSequence, StartError>
     ensures { told result ≡ start plan limit }
 {
     if limit == 0 {
-        return Start::BadLimit;
+        return Err(StartError::BadLimit);
     }
-    let config = plan.config;
-    if fits(config) {
-        let place = Place {
-            at: 0,
-            polls: limit,
-            word: 0,
-        };
-        Start::Run(PllSequence { plan, place })
-    } else {
-        Start::BadField
+    if !fits(plan.config) {
+        return Err(StartError::BadField);
     }
+    let place = Place {
+        at: 0,
+        polls: limit,
+        word: 0,
+    };
+    Ok(PllSequence { plan, place })
 }
 
 // A start of a PLL that has none yet goes through, and marks it: the mark stays even if the run later times out.
-pub fn once(pll: PllType, start: Start, marks: PllMarks) -> Started
+pub fn once(pll: PllType, start: Result<PllSequence, StartError>, marks: PllMarks) -> Started
     ensures { told_once result ≡ once pll (told start) marks }
 {
     match start {
-        Start::Run(_) => {
-            if marked(pll, marks) {
-                return Started {
-                    start: Start::Already,
-                    marks,
-                };
-            }
-            let marks = mark(pll, marks);
-            Started { start, marks }
-        }
-        Start::BadLimit => Started { start, marks },
-        Start::BadField => Started { start, marks },
-        Start::Already => Started { start, marks },
+        Ok(_) if marks.marked(pll) => Started {
+            start: Err(StartError::Already),
+            marks,
+        },
+        Ok(_) => Started {
+            start,
+            marks: marks.mark(pll),
+        },
+        Err(_) => Started { start, marks },
     }
 }
 
 pub fn configure_pll(plan: PllPlan, limit: u16, marks: PllMarks) -> Started
     ensures { told_once result ≡ once plan.pll (start plan limit) marks }
 {
-    let pll = plan.pll;
-    once(pll, configure_pll_unchecked(plan, limit), marks)
+    once(plan.pll, configure_pll_unchecked(plan, limit), marks)
 }

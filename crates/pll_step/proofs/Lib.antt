@@ -1,5 +1,4 @@
 pub mod Ahead
-pub mod Asks
 pub mod Ends
 pub mod Places
 pub mod Unique

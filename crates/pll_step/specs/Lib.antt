@@ -1,3 +1,3 @@
-pub mod Due
 pub mod Runs
 pub mod Step
+pub mod Within

@@ -1,10 +1,9 @@
 // The PLL sequence, one register access a step: the host owns the registers, and here are the order and the words.
 #![tactic(auto)]
 
-ghost use Rattle.std.specs.Prelude.{◌≡◌, ◌<◌};
-ghost use Rattle.pll_step.specs.Due.{asks, tell};
-ghost use Rattle.pll_rows.specs.Sequence.{sequence};
-ghost use Rattle.pll_step.specs.Step.{received, ask, Steps};
+ghost use Rattle.std.specs.Prelude.{◌≡◌};
+ghost use Rattle.pll_step.specs.Step.{Steps};
+ghost use Rattle.pll_step.specs.Within.{received_by, asks, tell};
 
 use pll_rows::{Due, PllPlan, locked, row};
 
@@ -25,6 +24,7 @@ pub struct PllSequence {
 }
 
 // What the host is to do: read a word of the image, write a value to one, or nothing more.
+// A lock that timed out is an end as Locked is, and no error to be handed on: the run comes back with it, and a step of that gives it again.
 #[derive(Clone, Copy)]
 pub enum Request {
     Read(u32),
@@ -39,99 +39,75 @@ pub struct Step {
     pub next: PllSequence,
 }
 
-#[derive(Clone, Copy)]
-struct Asking {
-    request: Request,
-    place: Place,
-}
-
-// Takes in the word that the host read, where a read was asked for last.
-fn received(plan: PllPlan, place: Place, word: u32) -> Place
-    ensures { result ≡ received (sequence plan) place word }
-{
-    let at = place.at;
-    let polls = place.polls;
-    match at {
-        1 | 3 | 5 | 7 | 11 => Place { at, polls, word },
-        10 => {
-            let pll = plan.pll;
-            if locked(pll, word) {
-                Place { at, polls, word }
-            } else {
-                let at = at - 1;
-                Place { at, polls, word }
-            }
-        }
-        _ => place,
-    }
-}
-
-// Asks for a row, and moves on.
-fn ask_row(place: Place, row: Due) -> Asking
-    requires { place.at < 12 }
-    ensures { tell result ≡ asks row place }
-{
-    let at = place.at + 1;
-    let polls = place.polls;
-    let word = place.word;
-    match row {
-        Due::Read(number) => Asking {
-            request: Request::Read(number),
-            place: Place { at, polls, word },
-        },
-        Due::Write(number, value) => Asking {
-            request: Request::Write(number, value),
-            place: Place {
-                at,
-                polls,
-                word: value,
-            },
-        },
-        Due::Poll(number) => {
-            if polls == 0 {
-                return Asking {
-                    request: Request::LockTimeout,
-                    place,
-                };
-            }
-            let polls = polls - 1;
-            Asking {
-                request: Request::Read(number),
-                place: Place { at, polls, word },
-            }
-        }
-        Due::End => Asking {
-            request: Request::Locked,
-            place,
-        },
-    }
-}
-
-fn ask(plan: PllPlan, place: Place) -> Asking
-    ensures { tell result ≡ ask (sequence plan) place }
-{
-    let at = place.at;
-    if at >= 12 {
-        return Asking {
-            request: Request::Locked,
-            place,
-        };
-    }
-    ask_row(place, row(plan, at, place.word))
-}
-
 impl PllSequence {
     // Takes the word that the host read for the last request, and answers what to do next. Where no read was asked for, the word
     // is ignored. A step after the end gives the same end again.
     pub fn step(self, word: u32) -> Step
         ensures { Steps self word result }
     {
-        let plan = self.plan;
+        self.received(word).ask()
+    }
+
+    // Takes in the word that the host read, where a read was asked for last.
+    fn received(self, word: u32) -> PllSequence
+        ensures { result ≡ received_by self word }
+    {
+        let Some(last) = self.place.at.checked_sub(1) else {
+            return self;
+        };
+        match row(self.plan, last, word) {
+            Due::Read(_) => self.at(Place { word, ..self.place }),
+            Due::Poll(_) if locked(self.plan.pll, word) => self.at(Place { word, ..self.place }),
+            Due::Poll(_) => self.at(Place {
+                at: last,
+                word,
+                ..self.place
+            }),
+            Due::Write(_, _) | Due::End => self,
+        }
+    }
+
+    // Asks for the row that is due, and moves on.
+    fn ask(self) -> Step
+        ensures { tell result ≡ asks self }
+    {
         let place = self.place;
-        let asking = ask(plan, received(plan, place, word));
-        let request = asking.request;
-        let place = asking.place;
-        let next = PllSequence { plan, place };
-        Step { request, next }
+        let (request, next) = match row(self.plan, place.at, place.word) {
+            Due::Read(number) => (
+                Request::Read(number),
+                Place {
+                    at: place.at + 1,
+                    ..place
+                },
+            ),
+            Due::Write(number, word) => (
+                Request::Write(number, word),
+                Place {
+                    at: place.at + 1,
+                    word,
+                    ..place
+                },
+            ),
+            Due::Poll(_) if place.polls == 0 => (Request::LockTimeout, place),
+            Due::Poll(number) => (
+                Request::Read(number),
+                Place {
+                    at: place.at + 1,
+                    polls: place.polls - 1,
+                    ..place
+                },
+            ),
+            Due::End => (Request::Locked, place),
+        };
+        Step {
+            request,
+            next: self.at(next),
+        }
+    }
+
+    fn at(self, place: Place) -> PllSequence
+        ensures { result ≡ record { plan = self.plan; place = place } }
+    {
+        PllSequence { place, ..self }
     }
 }

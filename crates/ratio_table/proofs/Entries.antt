@@ -7,11 +7,10 @@ use native.Mathlib.Omega.{arith}
 use lib.Dec.{lit≤}
 use lib.ListN.{get_or, length}
 use lib.Seq.{ext_get_or}
-use Rattle.ratio_table.specs.declared.Above.{Above}
 use Rattle.ratio_table.specs.declared.Ratio.{Ratio}
 use Rattle.ratio_table.specs.declared.Undivided.{Undivided}
 use Rattle.ratio_table.specs.Lowest.{ratio}
-use Rattle.ratio_table.specs.Table.{Between, Compared, Ratios, Runs, Six, Square, entry, mirror}
+use Rattle.ratio_table.specs.Table.{Above, Between, Compared, Mirrored, Ratios, Runs, Six, Square, entry, mirror, mirrored}
 use Rattle.ratio_table.proofs.Lowest.{itself, of_reduced, turned}
 
 -- what holds of 0, 1, 2 and 3 holds of every number below 4
@@ -58,6 +57,9 @@ six clock runs {a} s =
 
     r23 : Between (clock 2) (clock 3) a.r23
     r23 = both 2 3 (lit≤ tt) (lit≤ tt) s.r23
+
+pub whole : (clock : ℕ → Undivided) → ((i : ℕ) → i < 4 → Runs (clock i)) → {t : List (List Ratio)} → Mirrored (clock 0) (clock 1) (clock 2) (clock 3) t → Ratios clock t
+whole clock runs (mirrored s) = six clock runs s
 
 -- two tables that agree in every entry are one
 pub same_table :

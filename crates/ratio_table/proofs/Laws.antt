@@ -3,11 +3,10 @@ use Prim.Native.Nat.{ℕ, ◌*◌, ◌<◌}
 use mathlib.Core.Path.{◌≡◌, sym, ap, ◌∙◌}
 use mathlib.Core.List.{List}
 use native.Mathlib.Nat.{mul_comm, mul-mul-mul_comm, mul-pos}
-use Rattle.ratio_table.specs.declared.Above.{Above}
 use Rattle.ratio_table.specs.declared.Ratio.{Ratio}
 use Rattle.ratio_table.specs.declared.Undivided.{Undivided}
 use Rattle.ratio_table.specs.Lowest.{ratio, inverse}
-use Rattle.ratio_table.specs.Table.{Between, Ratios, Runs, Six, entry, over}
+use Rattle.ratio_table.specs.Table.{Above, Between, Mirrored, Ratios, Runs, Six, entry, mirror, mirrored, over}
 use Rattle.ratio_table.proofs.Entries.{same_table}
 use Rattle.ratio_table.proofs.Lowest.{cancelled, crossed, itself, no_zero, one_ratio, one_reduced, times, turned}
 
@@ -69,3 +68,7 @@ one_six x y =
       r13 = one_reduced x.r13 y.r13 i;
       r23 = one_reduced x.r23 y.r23 i;
     }
+
+-- and so one table
+pub one_mirrored : {a b c d : Undivided} {t u : List (List Ratio)} → Mirrored a b c d t → Mirrored a b c d u → t ≡ u
+one_mirrored (mirrored x) (mirrored y) = ap (mirror (ratio 1 1)) (one_six x y)

@@ -6,35 +6,28 @@ use mathlib.Core.List.{List, []}
 use native.Mathlib.Omega.{arith}
 use lib.Dec.{eqb}
 use lib.ListN.{length}
+use Rattle.std.specs.Prelude.{Result, Ok, Err}
+use Rattle.std.specs.Result.{result_unwrap_or}
 use Rattle.refusals.specs.Told.{Told, answered, refused}
 use Rattle.refusals.specs.Number.{BAD_IMAGE, ZERO_CLOCK}
 use Rattle.registers.specs.Words.{WORDS}
 use Rattle.clocks.specs.declared.Clocks.{Clocks}
-use Rattle.checks.specs.declared.Reason.{Reason}
-use Rattle.checks.specs.declared.Reason.TheVariants.{Nothing, Broken}
-use Rattle.checks.specs.Check.{reason}
+use Rattle.checks.specs.Check.{Reason, reason}
 use Rattle.evaluation.specs.declared.ClockReadError.{ClockReadError}
 use Rattle.evaluation.specs.declared.ClockReadError.TheVariants.{BadImage, DivisorZero, Overflow}
 use Rattle.evaluation.specs.Evaluated.{evaluated, judged, pick_told, told_error}
 use Rattle.evaluation.specs.Formulas.{clocks_of}
-use Rattle.sources.specs.declared.PllOutputs.{PllOutputs}
-use Rattle.ratio_table.specs.declared.Above.{Above}
-use Rattle.ratio_table.specs.Lowest.{ratio}
-use Rattle.ratio_table.specs.Table.{Runs, Six, mirror, none}
-use Rattle.ratio_table.proofs.Entries.{six}
-use Rattle.ratios.specs.Checked.{Checks, Fine, Right, accepted, checked, clock_at, fine, ratios, refusal, rejected, then_zero_clock}
+use Rattle.clocks.specs.Whole.{outputs_in}
+use Rattle.ratio_table.specs.declared.Ratio.{Ratio}
+use Rattle.ratio_table.specs.Table.{Mirrored, Runs, none}
+use Rattle.ratio_table.proofs.Entries.{whole}
+use Rattle.ratios.specs.declared.RatiosError.{RatiosError}
+use Rattle.ratios.specs.declared.RatiosError.TheVariants.{Evaluation, ZeroClock}
+use Rattle.ratios.specs.Checked.{Checks, Fine, Right, accepted, checked, clock_at, fine, ratios, refusal, rejected, then_zero_clock, told}
 use Rattle.ratios.specs.PlClocks.{pl_clock}
 use Rattle.ratios.proofs.Running.{runs}
 
--- the PLL outputs as the code takes them from the record
-abbrev outputs_in : Clocks → PllOutputs
-outputs_in c = record { arm_pll_out = c.arm_pll_out; ddr_pll_out = c.ddr_pll_out; io_pll_out = c.io_pll_out }
-
 module _ (crystal : ℕ) (image : List ℕ) where
-  -- the six of the image's PL clocks
-  abbrev SixOf : PllOutputs → Above → Type 0
-  SixOf out a = Six (pl_clock out image 0) (pl_clock out image 1) (pl_clock out image 2) (pl_clock out image 3) a
-
   pub refused_first : (e : ClockReadError) → told_error {A = Clocks} e ≡ evaluated crystal image → told_error {A = Fine} e ≡ checked crystal image
   unfolding checked
   refused_first BadImage h = ap (then_zero_clock crystal) h
@@ -54,24 +47,15 @@ module _ (crystal : ℕ) (image : List ℕ) where
       not_zero (suc n) f = refl
 
   -- what evaluation answers is the clocks, and no check is broken
-  pub evaluates : {c : Clocks} → evaluated crystal image ≡ answered c → (reason crystal image ≡ Nothing) × (c ≡ clocks_of crystal image)
+  pub evaluates : {c : Clocks} → evaluated crystal image ≡ answered c → (reason crystal image ≡ Ok tt) × (c ≡ clocks_of crystal image)
   unfolding evaluated
   evaluates {c} h = by (eqb (length image) WORDS) (reason crystal image) refl h
     where
       by : (b : Bool) (r : Reason) → reason crystal image ≡ r → pick_told b (judged r (answered (clocks_of crystal image))) (refused BAD_IMAGE []) ≡ answered c →
-          (reason crystal image ≡ Nothing) × (c ≡ clocks_of crystal image)
-      by true Nothing q e = (q, cc)
-      by true (Broken check) q e = let z : ◌≡◌ {A = ℕ} 0 1 = cc in absurd (omega arith)
-      by false r q e = let z : ◌≡◌ {A = ℕ} 0 1 = cc in absurd (omega arith)
-
-  -- the ways out of the check call: then-zero, and these
-  pub by_error : (e : ClockReadError) → told_error {A = Clocks} e ≡ evaluated crystal image → Checks crystal image (told_error e)
-  by_error BadImage h = refusal (sym (refused_first BadImage h))
-  by_error (DivisorZero id) h = refusal (sym (refused_first (DivisorZero id) h))
-  by_error (Overflow id) h = refusal (sym (refused_first (Overflow id) h))
-
-  pub by_six : {c : Clocks} {a : Above} → answered c ≡ evaluated crystal image → (crystal ≡ 0 → ⊥) → SixOf (outputs_in c) a → Checks crystal image (answered a)
-  by_six {a = a} h n r = ratios (sym (then_fine h n)) (subst (λ (k : Clocks). SixOf (outputs_in k) a) (evaluates (sym h)).1 r)
+          (reason crystal image ≡ Ok tt) × (c ≡ clocks_of crystal image)
+      by true (Ok _) q e = (q, cc)
+      by true (Err check) q e = absurd (cc)
+      by false r q e = absurd (cc)
 
   -- what the check call accepts, evaluation answers, and every clock runs
   pub accepted_runs : checked crystal image ≡ answered fine → (i : ℕ) → i < 4 → Runs (clock_at crystal image i)
@@ -80,18 +64,28 @@ module _ (crystal : ℕ) (image : List ℕ) where
     where
       by : (n : ℕ) (t : Told Clocks) → crystal ≡ n → evaluated crystal image ≡ t → then_zero_clock n t ≡ answered fine →
           (i : ℕ) → i < 4 → Runs (clock_at crystal image i)
-      by n (refused number carried) e q h = let z : ◌≡◌ {A = ℕ} 0 1 = cc in absurd (omega arith)
-      by zero (answered c) e q h = let z : ◌≡◌ {A = ℕ} 0 1 = cc in absurd (omega arith)
+      by n (refused number carried) e q h = absurd (cc)
+      by zero (answered c) e q h = absurd (cc)
       by (suc n) (answered c) e q h = runs crystal image (evaluates q).0 (omega (arith, e))
 
-  -- and from there to a table
-  pub right_table : {a : Above} → Checks crystal image (answered a) → Right crystal image (mirror (ratio 1 1) a)
-  right_table (ratios ok s) = accepted ok (six (clock_at crystal image) (accepted_runs ok) s)
+  -- the ways out of the check call: then_zero, and these
+  pub by_error : (e : ClockReadError) → told_error {A = Clocks} e ≡ evaluated crystal image → Checks crystal image (told_error e)
+  by_error BadImage h = refusal (sym (refused_first BadImage h))
+  by_error (DivisorZero id) h = refusal (sym (refused_first (DivisorZero id) h))
+  by_error (Overflow id) h = refusal (sym (refused_first (Overflow id) h))
 
-  pub right_none : {number : ℕ} {carried : List ℕ} → Checks crystal image (refused number carried) → Right crystal image none
-  right_none (refusal no_table) = rejected no_table
+  pub by_table : {c : Clocks} {t : List (List Ratio)} → answered c ≡ evaluated crystal image → (crystal ≡ 0 → ⊥) →
+      Mirrored (pl_clock (outputs_in c) image 0) (pl_clock (outputs_in c) image 1) (pl_clock (outputs_in c) image 2) (pl_clock (outputs_in c) image 3) t →
+      Checks crystal image (answered t)
+  by_table {t = t} h n m =
+      let ok = sym (then_fine h n) in
+      ratios ok (whole (clock_at crystal image) (accepted_runs ok)
+      (subst (λ (k : Clocks). Mirrored (pl_clock (outputs_in k) image 0) (pl_clock (outputs_in k) image 1) (pl_clock (outputs_in k) image 2) (pl_clock (outputs_in k) image 3) t) (evaluates (sym h)).1 m))
 
-  pub none_by_error : (e : ClockReadError) → Checks crystal image (told_error e) → Right crystal image none
-  none_by_error BadImage h = right_none h
-  none_by_error (DivisorZero id) h = right_none h
-  none_by_error (Overflow id) h = right_none h
+  -- and from there to a table in any case
+  pub in_any_case : (r : Result (List (List Ratio)) RatiosError) → Checks crystal image (told r) → Right crystal image (result_unwrap_or r none)
+  in_any_case (Ok t) (ratios ok r) = accepted ok r
+  in_any_case (Err (Evaluation BadImage)) (refusal not_ok) = rejected not_ok
+  in_any_case (Err (Evaluation (DivisorZero id))) (refusal not_ok) = rejected not_ok
+  in_any_case (Err (Evaluation (Overflow id))) (refusal not_ok) = rejected not_ok
+  in_any_case (Err ZeroClock) (refusal not_ok) = rejected not_ok

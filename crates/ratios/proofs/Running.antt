@@ -8,6 +8,7 @@ use native.Mathlib.Omega.{arith}
 use borrow.Author.Tests.{eqb-true, eqb-false}
 use lib.Dec.{lit≤}
 use lib.ListN.{get_or}
+use Rattle.std.specs.Prelude.{Ok}
 use Rattle.fields.specs.declared.Field.{Field}
 use Rattle.fields.specs.Word.{read_field}
 use Rattle.fields.proofs.Laws.{read_lt}
@@ -18,7 +19,6 @@ use Rattle.registers.specs.Words.{word, ARM_PLL_CTRL, DDR_PLL_CTRL, IO_PLL_CTRL,
 use Rattle.sources.specs.Clock.{dual}
 use Rattle.sources.specs.Source.{bypassed, output_of, pll_output}
 use Rattle.sources.proofs.Laws.{multiplied, passed_on}
-use Rattle.checks.specs.declared.Reason.TheVariants.{Nothing}
 use Rattle.checks.specs.Check.{broken, checks, fits, reason, zero}
 use Rattle.checks.proofs.Laws.{all_clear, holds}
 use Rattle.evaluation.specs.Formulas.{outputs}
@@ -46,7 +46,7 @@ product_small control = six_bits control DIVISOR DIVISOR_1 (lit≤ tt) (lit≤ t
 pub product_fits : {a b : ℕ} (control : ℕ) (f g : Field) → a ≡ read_field control f → b ≡ read_field control g → 2 ^ f.width ≤ 64 → 2 ^ g.width ≤ 64 → a * b < 2 ^ 32
 product_fits control f g e h p q = rw (e, h) (omega (arith, six_bits control f g p q))
 
-module _ (crystal : ℕ) (image : List ℕ) (unbroken : reason crystal image ≡ Nothing) where
+module _ (crystal : ℕ) (image : List ℕ) (unbroken : reason crystal image ≡ Ok tt) where
   check_holds : (k : ℕ) → k < 26 → broken crystal image (get_or checks k (fits 0)) ≡ false
   unfolding reason
   check_holds k h = holds (broken crystal image) (all_clear (broken crystal image) checks unbroken) k (fits 0) h

@@ -1,3 +1,4 @@
 pub mod Carried
 pub mod Number
+pub mod Refusal
 pub mod Told

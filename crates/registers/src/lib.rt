@@ -104,8 +104,9 @@ pub enum PllType {
 }
 
 // A word of an image. Past the image's end it is 0; evaluation has seen to the length before.
+// The 0 is specs/Words.antt's own, which every formula reads.
 pub fn word(image: &[u32], at: usize) -> u32
     ensures { result ≡ word_of image.now at }
 {
-    if at < image.len() { image[at] } else { 0 }
+    image.get(at).copied().unwrap_or(0)
 }

@@ -1,16 +1,19 @@
 -- How long the lines are at most, and how writers in a row come to them.
 use mathlib.Core.Path.{◌≡◌}
 use mathlib.Core.List.{List, [], ◌∷◌, ◌++◌}
-use Prim.Native.Nat.{ℕ, zero, suc, ◌+◌, ◌-◌, ◌/◌, ◌≤◌, ◌<◌}
+use Prim.Native.Nat.{ℕ, zero, suc, ◌+◌, ◌/◌, ◌≤◌}
 use native.Mathlib.Omega.{arith}
 use native.Mathlib.Nat.{le_refl}
 use native.Mathlib.Decide.{dec_lt}
 use borrow.Author.Tests.{lt-ltb, le-ltb}
 use lib.Dec.{lit≤}
 use lib.ListN.{length, length-append}
+use Rattle.std.specs.Prelude.{Result, IsOk}
 use Rattle.text.specs.Bytes.{bytes}
 use Rattle.text.specs.Digits.{decimal_up_to, decimal}
+use Rattle.text.specs.Page.{Contents}
 use Rattle.text.specs.Put.{Put}
+use Rattle.text.specs.declared.page.Full.{Full}
 use Rattle.forms.specs.Says.{Said}
 use Rattle.forms.proofs.Saying.{within, said, both, room_after}
 use Rattle.trace.specs.declared.Lead.{Lead}
@@ -32,65 +35,52 @@ unfolding decimal
 twenty n = up_to 19 n
 
 -- a name and a number behind it
-module _ (n : ℕ) {name before : List ℕ} {at : ℕ} {middle : List ℕ} {past : ℕ} (p : Put name before at middle past) where
-  module _ {end : List ℕ} {next : ℕ} (q : Put (decimal n) middle past end next) where
-    pub numbered : at + (length name + 20) ≤ length before → Said (length name + 20) (name ++ decimal n) before at end next
-    numbered h =
-        let s = said (le_refl (length name)) (omega arith) p in
-        both s (said (twenty n) (room_after s 20 h) q)
+module _ (n : ℕ) {name : List ℕ} {before middle end : Contents} (q r : Result Unit Full) (room : length name + 20 ≤ length before.rest)
+    (p : Put name before middle q) (d : Put (decimal n) middle end r) where
+  numbered : Said (length name + 20) (name ++ decimal n) before end
+  numbered =
+      let s = (said q (le_refl (length name)) (omega arith) p).1 in
+      both s (said r (twenty n) (room_after s 20 room) d).1
 
-    pub lined : {after : List ℕ} {last : ℕ} → at + (length name + 21) ≤ length before → Put (10 ∷ []) end next after last
-        → Said (length name + 21) (line name n) before at after last
-    lined h r =
-        let s = numbered (omega arith) in
-        within (length name + 20 + 1) (omega arith) (both s (said (lit≤ tt) (room_after s 1 (omega arith)) r))
+  pub lined : {after : Contents} (o : Result Unit Full) → length name + 21 ≤ length before.rest → Put (10 ∷ []) end after o
+      → IsOk o × Said (length name + 21) (line name n) before after
+  lined o h e =
+      let t = said o (lit≤ tt) (room_after numbered 1 (omega arith)) e in
+      (t.0, within (length name + 20 + 1) (omega arith) (both numbered t.1))
 
-    pub room_for_at : at + (length name + 45) ≤ length before → next + 25 ≤ length end
-    room_for_at h = room_after (numbered (omega arith)) 25 (omega arith)
+  pub room_for_at : length name + 45 ≤ length before.rest → 25 ≤ length end.rest
+  room_for_at h = room_after numbered 25 (omega arith)
 
-pub led : (lead : Lead) {name before : List ℕ} {at : ℕ} {middle : List ℕ} {past : ℕ} {end : List ℕ} {next : ℕ} {after : List ℕ} {last : ℕ} →
-    Put name before at middle past → Put (decimal lead.ticks) middle past end next → at + (length name + 45) ≤ length before →
-    Said 25 (line (bytes " at ") lead.at) end next after last → Said (length name + 45) (lead_line name lead) before at after last
-led lead {name} p q h r = within (length name + 20 + 25) (omega arith) (both (numbered lead.ticks p q (omega arith)) r)
-
--- the difference, by its sign
-module _ {first second : ℕ} {before : List ℕ} {at : ℕ} {after : List ℕ} {next : ℕ} where
-  pub below : first < second → Said 33 (line (bytes "difference -") (second - first)) before at after next
-      → Said 33 (difference_line first second) before at after next
-  below h s = rw (lt-ltb first second h) s
-
-  pub not_below : second ≤ first → Said 32 (line (bytes "difference ") (first - second)) before at after next
-      → Said 33 (difference_line first second) before at after next
-  not_below h s = rw (le-ltb first second h) (within 32 (lit≤ tt) s)
+pub led : (lead : Lead) {name : List ℕ} {before middle end after : Contents} (q r o : Result Unit Full) → length name + 45 ≤ length before.rest
+    → Put name before middle q → Put (decimal lead.ticks) middle end r → IsOk o × Said 25 (line (bytes " at ") lead.at) end after
+    → IsOk o × Said (length name + 45) (lead_line name lead) before after
+led lead {name} q r o h p d t = (t.0, within (length name + 20 + 25) (omega arith) (both (numbered lead.ticks q r (omega arith) p d) t.1))
 
 -- the six lines
-pub reported : (s : Trace) {b₀ b₁ b₂ b₃ b₄ b₅ b₆ : List ℕ} {at₀ at₁ at₂ at₃ at₄ at₅ at₆ : ℕ} →
-    Said 29 (line (bytes "samples ") s.samples) b₀ at₀ b₁ at₁ →
-    Said 27 (line (bytes "first ") s.first.total) b₁ at₁ b₂ at₂ →
-    Said 28 (line (bytes "second ") s.second.total) b₂ at₂ b₃ at₃ →
-    Said 33 (difference_line s.first.total s.second.total) b₃ at₃ b₄ at₄ →
-    Said 57 (lead_line (bytes "first leads ") s.first_leads) b₄ at₄ b₅ at₅ →
-    Said 58 (lead_line (bytes "second leads ") s.second_leads) b₅ at₅ b₆ at₆ →
-    Said REPORT (report_of s) b₀ at₀ b₆ at₆
+pub reported : (s : Trace) {b₀ b₁ b₂ b₃ b₄ b₅ b₆ : Contents} →
+    Said 29 (line (bytes "samples ") s.samples) b₀ b₁ →
+    Said 27 (line (bytes "first ") s.first.total) b₁ b₂ →
+    Said 28 (line (bytes "second ") s.second.total) b₂ b₃ →
+    Said 33 (difference_line s.first.total s.second.total) b₃ b₄ →
+    Said 57 (lead_line (bytes "first leads ") s.first_leads) b₄ b₅ →
+    Said 58 (lead_line (bytes "second leads ") s.second_leads) b₅ b₆ →
+    Said REPORT (report_of s) b₀ b₆
 unfolding report_of
 reported s p q r t u v = within 232 (lit≤ tt) (both (both (both (both (both p q) r) t) u) v)
 
 -- the one line, by what it is for
-module _ {fault : Fault} {before : List ℕ} {at : ℕ} {after : List ℕ} {next : ℕ} where
-  pub too_long : fault ≡ Fault.TooLong → at + FAULT ≤ length before
-      → Put (bytes "replay: refused 19: more than 16777216 samples\n") before at after next
-      → Said FAULT (fault_of fault) before at after next
+module _ {fault : Fault} {before after : Contents} (o : Result Unit Full) where
+  pub too_long : fault ≡ Fault.TooLong → FAULT ≤ length before.rest → Put (bytes "replay: refused 19: more than 16777216 samples\n") before after o
+      → IsOk o × Said FAULT (fault_of fault) before after
   unfolding fault_of
-  too_long e h p = rw e (said (lit≤ tt) h p)
+  too_long e h p = rw e (said o (lit≤ tt) h p)
 
-  pub unfinished : (n : ℕ) → fault ≡ Fault.Unfinished n
-      → Said 69 (line (bytes "replay: the trace ends inside a sample, at byte ") n) before at after next
-      → Said FAULT (fault_of fault) before at after next
+  pub unfinished : (n : ℕ) → fault ≡ Fault.Unfinished n → IsOk o × Said 69 (line (bytes "replay: the trace ends inside a sample, at byte ") n) before after
+      → IsOk o × Said FAULT (fault_of fault) before after
   unfolding fault_of
-  unfinished n e s = rw e (within 69 (lit≤ tt) s)
+  unfinished n e t = (t.0, rw e (within 69 (lit≤ tt) t.1))
 
-  pub unreadable : (n : ℕ) → fault ≡ Fault.Unreadable n
-      → Said 66 (line (bytes "replay: the trace cannot be read, after byte ") n) before at after next
-      → Said FAULT (fault_of fault) before at after next
+  pub unreadable : (n : ℕ) → fault ≡ Fault.Unreadable n → IsOk o × Said 66 (line (bytes "replay: the trace cannot be read, after byte ") n) before after
+      → IsOk o × Said FAULT (fault_of fault) before after
   unfolding fault_of
-  unreadable n e s = rw e (within 66 (lit≤ tt) s)
+  unreadable n e t = (t.0, rw e (within 66 (lit≤ tt) t.1))

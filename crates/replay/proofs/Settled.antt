@@ -5,8 +5,9 @@ use mathlib.Core.List.{List, [], ◌∷◌, ◌++◌}
 use Prim.Native.Nat.{ℕ, ◌+◌, ◌≤◌, ◌<◌}
 use native.Mathlib.Omega.{arith}
 use borrow.Author.Tests.{ne_eqb}
-use lib.ListN.{length, take, length-append}
-use lib.Seq.{length-take-le}
+use lib.ListN.{length, take, drop, length-append}
+use lib.Seq.{length-take-le, take-add}
+use Rattle.std.specs.Prelude.{Result, Ok, Err}
 use Rattle.words.proofs.Choosing.{never}
 use Rattle.trace.specs.declared.Fed.{Fed}
 use Rattle.trace.specs.declared.Trace.{Trace}
@@ -16,11 +17,10 @@ use Rattle.trace.proofs.Laws.{length_firsts, only, of_none}
 use Rattle.trace.proofs.Cutting.{grown}
 use Rattle.replay.specs.Samples.{samples_of, left_of}
 use Rattle.replay.specs.Reading.{Reads, Ends, Told}
-use Rattle.replay.specs.Turns.{so_far, at_end, Advances, Turned}
-use Rattle.replay.specs.declared.report.Fault.TheVariants as Fault
-use Rattle.replay.specs.declared.read.Held.{Held}
-use Rattle.replay.specs.declared.read.Outcome.{Outcome}
-use Rattle.replay.specs.declared.read.Turn.{Turn}
+use Rattle.replay.specs.Ending.{so_far, at_end}
+use Rattle.replay.specs.Turns.{Advances}
+use Rattle.replay.specs.declared.held.Held.{Held}
+use Rattle.replay.specs.declared.report.Fault.{Fault}
 use Rattle.replay.proofs.Sampling.{measured, samples_on, left_on}
 
 in_reach : (t : List Sample) {s : Trace} {r : Fed} → Feeds s (firsts t) (seconds t) r → r.refusal ≡ 0 → s.samples + length t ≤ MOST
@@ -60,8 +60,8 @@ within_limit (Reads.more {bytes} {held} block before feeds) =
     omega (arith, in_reach p feeds refl, now.0.samples, length-append (samples_of bytes) p, ap length (samples_after bytes block now.1))
 
 -- one thing is said of some bytes
-pub unique : {bytes : List ℕ} {failed : Bool} {o p : Outcome} → Ends bytes failed o → Ends bytes failed p → o ≡ p
-unique (Ends.whole h e n) (Ends.whole k f m) = ap Outcome.Whole (only n m)
+pub unique : {bytes : List ℕ} {failed : Bool} {o p : Result Trace Fault} → Ends bytes failed o → Ends bytes failed p → o ≡ p
+unique (Ends.whole h e n) (Ends.whole k f m) = ap Ok (only n m)
 unique (Ends.whole h e n) (Ends.unfinished k f) = absurd (omega arith)
 unique (Ends.whole h e n) (Ends.too_long k) = absurd (omega arith)
 unique (Ends.unfinished h e) (Ends.whole k f m) = absurd (omega arith)
@@ -80,10 +80,14 @@ counted {bytes} reads = let now = settled reads in omega (arith, now.0.samples, 
 pub record Reading (input : List ℕ) (h : Held) : Type 0 where
   pub bytes : List ℕ
   pub reads : Reads bytes h.trace (take h.count input)
-  pub few : h.count ≤ 3
 
-pub begun : (input : List ℕ) {s : Trace} → s ≡ nothing → Reading input (record { trace = s; count = 0 })
-begun input e = record { bytes = []; reads = subst (λ (s : Trace). Reads [] s []) (sym e) Reads.start; few = omega arith }
+pub begun : (input : List ℕ) {h : Held} → h.trace ≡ nothing → h.count ≡ 0 → Reading input h
+begun input {h} e n =
+    record {
+      bytes = [];
+      reads = subst (λ (held : List ℕ). Reads [] h.trace held) (sym (ap (λ (n : ℕ). take n input) n))
+          (subst (λ (s : Trace). Reads [] s []) (sym e) Reads.start);
+    }
 
 -- what is said at an end, by its kind
 module _ {bytes : List ℕ} {s : Trace} where
@@ -93,15 +97,11 @@ module _ {bytes : List ℕ} {s : Trace} where
       record { bytes = bytes; failed = false; ends = Ends.whole (within_limit reads) (sym (ap length now.1)) now.0 }
   at_the_end (x ∷ held) reads =
       rw (ne_eqb (length (x ∷ held)) 0 (omega arith))
-      (subst (λ (n : ℕ). Told (Outcome.Broken (Fault.Unfinished n))) (sym (counted reads))
+      (subst (λ (n : ℕ). Told (Err (Fault.Unfinished n))) (sym (counted reads))
       (record { bytes = bytes; failed = false; ends = Ends.unfinished (within_limit reads) (omega (arith, ap length (settled reads).1)) }))
 
-  unread : {held : List ℕ} → Reads bytes s held → Told (Outcome.Broken (Fault.Unreadable (so_far s (length held))))
-  unread reads =
-      subst (λ (n : ℕ). Told (Outcome.Broken (Fault.Unreadable n))) (sym (counted reads)) (record { bytes = bytes; failed = true; ends = Ends.unreadable })
-
   beyond : {held : List ℕ} (block : List ℕ) → Reads bytes s held → MOST < s.samples + length (samples_of (held ++ block))
-      → Told (Outcome.Broken Fault.TooLong)
+      → Told (Err Fault.TooLong)
   beyond {held} block reads m =
       let now = settled reads in
       let p = samples_of (held ++ block) in
@@ -109,33 +109,46 @@ module _ {bytes : List ℕ} {s : Trace} where
       omega (arith, now.0.samples, ap length (samples_after bytes block now.1), length-append (samples_of bytes) p) in
       record { bytes = bytes ++ block; failed = false; ends = Ends.too_long more }
 
-module _ {input after : List ℕ} {h : Held} (g : Reading input h) where
-  gone_on : (block : List ℕ) {t : Turn} {next : Held} → Advances h.trace (take h.count input ++ block) after t → t ≡ Turn.More next → Reading after next
-  gone_on block {next = next} (Advances.goes_on {r} {count} feeds e n) q =
-      let same : record { trace = r; count = count } ≡ next = cc in
-      subst (Reading after) same
-      (record {
-        bytes = g.bytes ++ block;
-        reads = subst (Reads (g.bytes ++ block) r) (sym e) (Reads.more block g.reads feeds);
-        few = omega (arith, (measured (take h.count input ++ block)).1);
-      })
-  gone_on block (Advances.too_long m) q = never (cc)
+module _ (input : List ℕ) {h : Held} (g : Reading input h) where
+  -- a read that gives nothing, and one that fails
+  module _ (within : h.count ≤ length input) where
+    pub ended : Told (at_end h.trace h.count)
+    ended = subst (λ (n : ℕ). Told (at_end h.trace n)) (length-take-le h.count input within) (at_the_end (take h.count input) g.reads)
 
-  pub one_more : {t : Turn} {next : Held} → Turned h.trace (take h.count input) after t → t ≡ Turn.More next → Reading after next
-  one_more (Turned.a_block block a) q = gone_on block a q
-  one_more Turned.the_end q = never (cc)
-  one_more Turned.unreadable q = never (cc)
+    pub unread : Told (Err (Fault.Unreadable (so_far h.trace h.count)))
+    unread =
+        subst (λ (n : ℕ). Told (Err (Fault.Unreadable n)))
+        (sym (counted g.reads) ∙ ap (so_far h.trace) (length-take-le h.count input within))
+        (record { bytes = g.bytes; failed = true; ends = Ends.unreadable })
 
-  stopped : (block : List ℕ) {t : Turn} {o : Outcome} → Advances h.trace (take h.count input ++ block) after t → t ≡ Turn.Ended o → Told o
-  stopped block (Advances.goes_on feeds e n) q = never (cc)
-  stopped block (Advances.too_long m) q = subst Told (cc) (beyond block g.reads m)
+  -- and one that gives n bytes, behind what was held
+  module _ (read : List ℕ) (n : ℕ) (front : take h.count read ≡ take h.count input) where
+    abbrev block : List ℕ
+    block = take n (drop h.count read)
 
-  pub done : {t : Turn} {o : Outcome} → Turned h.trace (take h.count input) after t → t ≡ Turn.Ended o → Told o
-  done (Turned.a_block block a) q = stopped block a q
-  done Turned.the_end q = subst Told (cc) (at_the_end (take h.count input) g.reads)
-  done Turned.unreadable q = subst Told (cc) (unread g.reads)
+    behind : take (h.count + n) read ≡ take h.count input ++ block
+    behind = take-add h.count n read ∙ ap (λ (l : List ℕ). l ++ block) front
 
-pub given_up : {input : List ℕ} {h : Held} {n : ℕ} → Reading input h → h.count ≤ length input → n ≡ so_far h.trace h.count
-    → Told (Outcome.Broken (Fault.Unreadable n))
-given_up {input} {h} g w e =
-    subst (λ (n : ℕ). Told (Outcome.Broken (Fault.Unreadable n))) (ap (so_far h.trace) (length-take-le h.count input w) ∙ sym e) (unread g.reads)
+    go_on : {after : List ℕ} {r : Result Held Fault} {next : Held} → Advances h.trace (take h.count input ++ block) after r → r ≡ Ok next → Reading after next
+    go_on {after} {next = next} (Advances.goes_on {h} feeds e count_is) q =
+        let same : h ≡ next = cc in
+        subst (Reading after) same
+        (record {
+          bytes = g.bytes ++ block;
+          reads = subst (Reads (g.bytes ++ block) h.trace) (sym e) (Reads.more block g.reads feeds);
+        })
+    go_on (Advances.too_long m) q = never (cc)
+
+    stop : {after : List ℕ} {r : Result Held Fault} {fault : Fault} → Advances h.trace (take h.count input ++ block) after r → r ≡ Err fault → Told (Err fault)
+    stop (Advances.goes_on feeds e count_is) q = never (cc)
+    stop (Advances.too_long m) q = subst Told (cc) (beyond block g.reads m)
+
+    module _ {after : List ℕ} {r : Result Held Fault} (a : Advances h.trace (take (h.count + n) read) after r) where
+      a' : Advances h.trace (take h.count input ++ block) after r
+      a' = subst (λ (bytes : List ℕ). Advances h.trace bytes after r) behind a
+
+      pub one_more : {next : Held} → r ≡ Ok next → Reading after next
+      one_more = go_on a'
+
+      pub stopped : {fault : Fault} → r ≡ Err fault → Told (Err fault)
+      stopped = stop a'

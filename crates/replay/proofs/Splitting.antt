@@ -1,78 +1,132 @@
--- Going through a block, sample by sample: `Split` is what holds after i of them.
-use mathlib.Core.Path.{◌≡◌, sym, ap, subst₂, ◌∙◌}
-use mathlib.Core.List.{List, ◌++◌}
+-- Going through a block, sample by sample: `Written` is what holds where the bytes of `rest` are left.
+use mathlib.Core.Path.{◌≡◌, refl, sym, ap, ◌∙◌, subst₂}
+use mathlib.Core.Bool.{true≢false}
+use mathlib.Core.List.{List, [], ◌∷◌, ◌++◌, append_assoc, append-nil}
 use Prim.Native.Nat.{ℕ, ◌+◌, ◌*◌, ◌/◌, ◌<◌, ◌≤◌}
 use native.Mathlib.Omega.{arith}
-use lib.ListN.{length, get_or, set, take, drop}
-use lib.Seq.{take_at}
+use lib.ListN.{length, get_or, set, take, length-append, length-set}
+use Rattle.std.proofs.lemmas.Grind.{take-set_at}
+use lib.Seq.{length-take-le}
+use Rattle.std.specs.Prelude.{Option, Some, None, Result, IsSomeAnd, IsNone}
 use Rattle.bounds.specs.Within.{Within}
 use Rattle.bounds.proofs.Bound.{both}
-use Rattle.handing.proofs.Over.{Copying, begun, one_more, all_copied}
-use Rattle.trace.specs.declared.Fed.{Fed}
 use Rattle.trace.specs.declared.Trace.{Trace}
-use Rattle.trace.specs.Numbers.{firsts, seconds}
-use Rattle.trace.specs.Parts.{Feeds}
-use Rattle.trace.proofs.Laws.{unique, length_firsts, length_seconds}
+use Rattle.trace.specs.declared.TraceError.{TraceError}
+use Rattle.trace.specs.Numbers.{Sample, firsts, seconds}
+use Rattle.trace.specs.Parts.{Feeds, fed_of}
+use Rattle.trace.proofs.Laws.{one_result, length_firsts}
 use Rattle.replay.specs.Samples.{count, samples_of}
-use Rattle.replay.specs.Block.{BLOCK, Takes, not_taken, Rows}
+use Rattle.replay.specs.Block.{BLOCK, Takes}
 use Rattle.replay.specs.declared.block.Taken.{Taken}
-use Rattle.replay.proofs.Sampling.{measured, how_many, first_at, second_at}
+use Rattle.replay.proofs.Sampling.{measured, how_many}
 
-pub record Split (bytes first₀ second₀ first second : List ℕ) (i : ℕ) : Type 0 where
-  pub firsts : Copying first₀ (firsts (samples_of bytes)) first i
-  pub seconds : Copying second₀ (seconds (samples_of bytes)) second i
+pub record Split (block first second rest : List ℕ) : Type 0 where
+  pub firsts : firsts (samples_of block) ≡ first ++ firsts (samples_of rest)
+  pub seconds : seconds (samples_of block) ≡ second ++ seconds (samples_of rest)
 
--- as many counts a row as samples
-rows : (bytes : List ℕ) → (length (firsts (samples_of bytes)) ≡ length bytes / 4) × (length (seconds (samples_of bytes)) ≡ length bytes / 4)
-rows bytes = (length_firsts (samples_of bytes) ∙ how_many bytes, length_seconds (samples_of bytes) ∙ how_many bytes)
+abbrev sample_of : List ℕ → Sample
+sample_of four = record { first = count (get_or four 0 0) (get_or four 1 0); second = count (get_or four 2 0) (get_or four 3 0) }
 
-pub none : (bytes first second : List ℕ) → length bytes / 4 ≤ length first → length bytes / 4 ≤ length second
-    → Split bytes first second first second 0
-none bytes first second h k = record { firsts = begun (omega (arith, (rows bytes).0)); seconds = begun (omega (arith, (rows bytes).1)) }
+in_front : (four rest : List ℕ) → length four ≡ 4 → samples_of (four ++ rest) ≡ sample_of four ∷ samples_of rest
+in_front [] rest e = absurd (omega arith)
+in_front (a ∷ []) rest e = absurd (omega arith)
+in_front (a ∷ b ∷ []) rest e = absurd (omega arith)
+in_front (a ∷ b ∷ c ∷ []) rest e = absurd (omega arith)
+in_front (a ∷ b ∷ c ∷ d ∷ []) rest e = refl
+in_front (a ∷ b ∷ c ∷ d ∷ f ∷ four) rest e = absurd (omega arith)
 
-module _ {bytes first₀ second₀ first second : List ℕ} {i : ℕ} (s : Split bytes first₀ second₀ first second i) where
-  pub first_room : i < length bytes / 4 → i < length first
-  first_room h = omega (arith, s.firsts.room, s.firsts.as_long, (rows bytes).0)
+too_few : (rest : List ℕ) → length rest < 4 → samples_of rest ≡ []
+too_few [] h = refl
+too_few (a ∷ []) h = refl
+too_few (a ∷ b ∷ []) h = refl
+too_few (a ∷ b ∷ c ∷ []) h = refl
+too_few (a ∷ b ∷ c ∷ d ∷ rest) h = absurd (omega arith)
 
-  pub second_room : i < length bytes / 4 → i < length second
-  second_room h = omega (arith, s.seconds.room, s.seconds.as_long, (rows bytes).1)
+module _ {block first second rest : List ℕ} (s : Split block first second rest) where
+  module _ (four after : List ℕ) (e : rest ≡ four ++ after) (l : length four ≡ 4) where
+    room : length block ≤ BLOCK → length first < 16_384
+    room h =
+        let left : 4 ≤ length rest = omega (arith, ap length e, length-append four after) in
+        omega (arith, ap length s.firsts, length-append first (firsts (samples_of rest)), length_firsts (samples_of block), length_firsts (samples_of rest), measured block, measured rest)
 
-  pub another : {x y : ℕ} → i < length bytes / 4 → x ≡ count (get_or bytes (i * 4) 0) (get_or bytes (i * 4 + 1) 0)
-      → y ≡ count (get_or bytes (i * 4 + 2) 0) (get_or bytes (i * 4 + 3) 0) →
-      Split bytes first₀ second₀ (set first i x) (set second i y) (i + 1)
-  another h e f =
+    another : {x y : ℕ} {first' second' : List ℕ} → x ≡ count (get_or four 0 0) (get_or four 1 0) → y ≡ count (get_or four 2 0) (get_or four 3 0)
+        → first' ≡ first ++ (x ∷ []) → second' ≡ second ++ (y ∷ []) → Split block first' second' after
+    another {x} {y} x_is y_is first_is second_is =
+        let whole = ap samples_of e ∙ in_front four after l in
+        record {
+          firsts =
+              s.firsts
+              ∙ ap (λ (t : List Sample). first ++ firsts t) whole
+              ∙ ap (λ (n : ℕ). first ++ n ∷ firsts (samples_of after)) (sym x_is)
+              ∙ sym (append_assoc first (x ∷ []) (firsts (samples_of after)))
+              ∙ ap (λ (row : List ℕ). row ++ firsts (samples_of after)) (sym first_is);
+          seconds =
+              s.seconds
+              ∙ ap (λ (t : List Sample). second ++ seconds t) whole
+              ∙ ap (λ (n : ℕ). second ++ n ∷ seconds (samples_of after)) (sym y_is)
+              ∙ sym (append_assoc second (y ∷ []) (seconds (samples_of after)))
+              ∙ ap (λ (row : List ℕ). row ++ seconds (samples_of after)) (sym second_is);
+        }
+
+  all : length rest < 4 → (first ≡ firsts (samples_of block)) × (second ≡ seconds (samples_of block))
+  all h = (
+    sym (s.firsts ∙ ap (λ (t : List Sample). first ++ firsts t) (too_few rest h) ∙ append-nil first),
+    sym (s.seconds ∙ ap (λ (t : List Sample). second ++ seconds t) (too_few rest h) ∙ append-nil second),
+  )
+
+-- n counts stand at the front of both rows
+pub record Written (block first second rest : List ℕ) (n : ℕ) : Type 0 where
+  pub first_long : length first ≡ 16_384
+  pub second_long : length second ≡ 16_384
+  pub within : n ≤ 16_384
+  pub split : Split block (take n first) (take n second) rest
+
+module _ {block first second rest : List ℕ} {n : ℕ} (w : Written block first second rest n) where
+  pub one_more : (four after : List ℕ) {i m x y : ℕ} → length block ≤ BLOCK → rest ≡ four ++ after → length four ≡ 4 → i ≡ n → m ≡ n + 1
+      → x ≡ count (get_or four 0 0) (get_or four 1 0) → y ≡ count (get_or four 2 0) (get_or four 3 0) → Written block (set first i x) (set second i y) after m
+  one_more four after {i} {m} {x} {y} small e l i_is m_is x_is y_is =
+      let more : n < 16_384 = omega (arith, room w.split four after e l small, length-take-le n first (omega (arith, w.first_long, w.within))) in
       record {
-        firsts = one_more s.firsts (omega (arith, (rows bytes).0)) (e ∙ sym (first_at bytes i (omega (arith, how_many bytes))));
-        seconds = one_more s.seconds (omega (arith, (rows bytes).1)) (f ∙ sym (second_at bytes i (omega (arith, how_many bytes))));
+        first_long = length-set first i x ∙ w.first_long;
+        second_long = length-set second i y ∙ w.second_long;
+        within = omega arith;
+        split = another w.split four after e l x_is y_is
+            (take-set_at first i m x (omega arith) (omega (arith, w.first_long)) ∙ ap (λ (k : ℕ). take k first ++ (x ∷ [])) i_is)
+            (take-set_at second i m y (omega arith) (omega (arith, w.second_long)) ∙ ap (λ (k : ℕ). take k second ++ (y ∷ [])) i_is);
       }
 
-  pub all : length bytes / 4 ≤ i → Rows bytes first₀ second₀ first second
-  all h =
+  -- the rows' fronts are fed
+  pub taken : {t : Trace} {m : ℕ} {r : Result Trace TraceError} → length rest < 4 → m ≡ length block / 4
+      → Feeds t (take m first) (take m second) (fed_of t r) → Takes t block (record { fed = r; used = m * 4 })
+  taken {t} {m} {r} h m_is g =
+      let a = all w.split h in
+      let same : m ≡ n = omega (arith, ap length a.0, length_firsts (samples_of block), how_many block, length-take-le n first (omega (arith, w.first_long, w.within))) in
       record {
-        firsts = all_copied s.firsts (omega (arith, (rows bytes).0))
-            ∙ ap (λ (n : ℕ). firsts (samples_of bytes) ++ drop n first₀) (length_firsts (samples_of bytes));
-        seconds = all_copied s.seconds (omega (arith, (rows bytes).1))
-            ∙ ap (λ (n : ℕ). seconds (samples_of bytes) ++ drop n second₀) (length_seconds (samples_of bytes));
+        feeds = subst₂ (λ (xs ys : List ℕ). Feeds t xs ys (fed_of t r))
+            (ap (λ (k : ℕ). take k first) same ∙ a.0)
+            (ap (λ (k : ℕ). take k second) same ∙ a.1)
+            g;
+        used = omega (arith, how_many block, measured block);
       }
-
--- the rows' fronts are fed
-pub taken : {s : Trace} {bytes first₀ second₀ first second : List ℕ} {r : Fed} → Rows bytes first₀ second₀ first second
-    → Feeds s (take (length bytes / 4) first) (take (length bytes / 4) second) r →
-    Takes s bytes (record { fed = r; used = length bytes / 4 * 4 })
-taken {s} {bytes} {first₀} {second₀} {r = r} w g =
-    record {
-      feeds = subst₂ (λ (xs ys : List ℕ). Feeds s xs ys r)
-          (ap (take (length bytes / 4)) w.firsts ∙ take_at (firsts (samples_of bytes)) _ (length bytes / 4) (rows bytes).0)
-          (ap (take (length bytes / 4)) w.seconds ∙ take_at (seconds (samples_of bytes)) _ (length bytes / 4) (rows bytes).1)
-          g;
-      used = omega (arith, (measured bytes).0, (measured bytes).1);
-    }
 
 -- a block has one outcome
-same : {s : Trace} {bytes : List ℕ} {r q : Taken} → Takes s bytes r → Takes s bytes q → r ≡ q
-same {r = r} {q} x y = let n : r.used ≡ q.used = omega (arith, x.used, y.used) in
-    λ i. record { fed = unique x.feeds y.feeds i; used = n i }
+module _ (s : Trace) (bytes : List ℕ) where
+  same : {r q : Taken} → Takes s bytes r → Takes s bytes q → r ≡ q
+  same {r} {q} x y =
+      let n : r.used ≡ q.used = omega (arith, x.used, y.used) in
+      let f = one_result x.feeds y.feeds in
+      λ i. record { fed = f i; used = n i }
 
-pub one_block : {s : Trace} {bytes : List ℕ} {r q : Taken} → Within (length bytes) BLOCK (Takes s bytes r) (r ≡ not_taken s)
-    → Within (length bytes) BLOCK (Takes s bytes q) (q ≡ not_taken s) → r ≡ q
-one_block = both same (λ e f. e ∙ sym f)
+  same_if_some : (r q : Option Taken) → IsSomeAnd r (Takes s bytes) → IsSomeAnd q (Takes s bytes) → r ≡ q
+  same_if_some None q x y = absurd x
+  same_if_some (Some r) None x y = absurd y
+  same_if_some (Some r) (Some q) x y = ap Some (same x y)
+
+  no_other : (r q : Option Taken) → IsNone r → IsNone q → r ≡ q
+  no_other None None e f = refl
+  no_other None (Some q) e f = absurd (true≢false f)
+  no_other (Some r) q e f = absurd (true≢false e)
+
+  pub one_block : {r q : Option Taken} → Within (length bytes) BLOCK (IsSomeAnd r (Takes s bytes)) (IsNone r)
+      → Within (length bytes) BLOCK (IsSomeAnd q (Takes s bytes)) (IsNone q) → r ≡ q
+  one_block {r} {q} = both (same_if_some r q) (no_other r q)

@@ -1,36 +1,37 @@
--- One read and what came of it: the block that is taken, what is left of a sample, and the end.
+-- A block that is taken: what is left of a sample, or that there are too many.
 use mathlib.Core.Path.{◌≡◌, refl, sym, ap, ◌∙◌, subst}
-use mathlib.Core.List.{List, [], ◌∷◌, ◌++◌}
+use mathlib.Core.List.{List, [], ◌∷◌}
 use Prim.Native.Nat.{ℕ, suc, ◌+◌, ◌*◌, ◌-◌, ◌≤◌, ◌<◌}
 use native.Mathlib.Omega.{arith}
 use lib.ListN.{length, take, drop}
 use lib.Seq.{length-take-le, take-add, take_at, drop_at}
-use borrow.Rule.Slice.PartMut.{put_mid, take_put}
+use Rattle.std.specs.Prelude.{Option, Some, Result, Ok, Err, IsSomeAnd, IsNone}
 use Rattle.bounds.specs.Within.{Within}
 use Rattle.words.specs.Words.{part, Moved}
 use Rattle.trace.specs.declared.Fed.{Fed}
 use Rattle.trace.specs.declared.Trace.{Trace}
+use Rattle.trace.specs.declared.TraceError.{TraceError}
+use Rattle.trace.specs.declared.TraceError.TheVariants.{BadRows, TraceLong}
 use Rattle.trace.specs.Numbers.{Sample, firsts, seconds}
-use Rattle.trace.specs.Parts.{MOST, Feeds, fed}
+use Rattle.trace.specs.Parts.{MOST, Feeds, fed_of}
 use Rattle.trace.proofs.Laws.{length_firsts, length_seconds}
 use Rattle.replay.specs.Samples.{samples_of, left_of}
 use Rattle.replay.specs.Block.{BLOCK, Takes}
-use Rattle.replay.specs.Turns.{so_far, at_end, Room, Filled, Advances, Turned}
+use Rattle.replay.specs.Turns.{Advances}
 use Rattle.replay.specs.declared.block.Taken.{Taken}
+use Rattle.replay.specs.declared.held.Held.{Held}
 use Rattle.replay.specs.declared.report.Fault.TheVariants as Fault
-use Rattle.replay.specs.declared.read.Got.{Got}
-use Rattle.replay.specs.declared.read.Outcome.{Outcome}
-use Rattle.replay.specs.declared.read.Turn.{Turn}
 use Rattle.replay.proofs.Sampling.{measured}
 
 -- two rows of one trace are refused for its length only
-pub refused : (t : List Sample) {s : Trace} {r : Fed} → Feeds s (firsts t) (seconds t) r → (r.refusal ≡ 0 → ⊥) → MOST < s.samples + length t
+refused : (t : List Sample) {s : Trace} {f : Fed} → Feeds s (firsts t) (seconds t) f → (f.refusal ≡ 0 → ⊥) → MOST < s.samples + length t
 refused t (Feeds.bad_rows n) z = absurd (n (length_firsts t ∙ sym (length_seconds t)))
 refused t (Feeds.trace_long e h) z = omega (arith, length_firsts t)
 refused t (Feeds.goes_on e h o) z = absurd (z refl)
 
-not_refused : {s : Trace} {xs ys : List ℕ} {r : Fed} → Feeds s xs ys r → r.refusal ≡ 0 → Feeds s xs ys (fed 0 r.trace)
-not_refused {s} {xs} {ys} {r} f e = subst (λ (n : ℕ). Feeds s xs ys (fed n r.trace)) e f
+a_number : (s : Trace) (error : TraceError) → (fed_of s (Err error)).refusal ≡ 0 → ⊥
+a_number s BadRows e = absurd (omega arith)
+a_number s TraceLong e = absurd (omega arith)
 
 -- what is left is the end of the block
 four : (n : ℕ) → suc n * 4 ≡ suc (suc (suc (suc (n * 4))))
@@ -52,13 +53,13 @@ part_is input from to h k =
     whole : to ≡ from + (to - from)
     whole = omega arith
 
-module _ {s : Trace} (input : List ℕ) (filled : ℕ) {r : Taken} {Past : Type 0} (within : filled ≤ length input) (small : filled ≤ BLOCK)
-    (w : Within (length (take filled input)) BLOCK (Takes s (take filled input) r) Past) where
+module _ (s : Trace) (input : List ℕ) (filled : ℕ) {o : Option Taken} {r : Taken} (within : filled ≤ length input) (small : filled ≤ BLOCK)
+    (w : Within (length (take filled input)) BLOCK (IsSomeAnd o (Takes s (take filled input))) (IsNone o)) (is : o ≡ Some r) where
   size : length (take filled input) ≡ filled
   size = length-take-le filled input within
 
   t : Takes s (take filled input) r
-  t = w.fits (omega (arith, size))
+  t = subst (λ (o : Option Taken). IsSomeAnd o (Takes s (take filled input))) is (w.fits (omega (arith, size)))
 
   used : r.used ≡ length (samples_of (take filled input)) * 4
   used = omega (arith, t.used, (measured (take filled input)).0)
@@ -69,38 +70,21 @@ module _ {s : Trace} (input : List ℕ) (filled : ℕ) {r : Taken} {Past : Type 
       ∙ ap (λ (n : ℕ). drop n (take filled input)) used
       ∙ left_is (take filled input)
 
-  pub no_more : (r.fed.refusal ≡ 0 → ⊥) → {after : List ℕ} → Advances s (take filled input) after (Turn.Ended (Outcome.Broken Fault.TooLong))
-  no_more z = Advances.too_long (refused (samples_of (take filled input)) t.feeds z)
+  pub no_more : {error : TraceError} → r.fed ≡ Err error → {after : List ℕ} → Advances s (take filled input) after (Err Fault.TooLong)
+  no_more {error} e =
+      let bytes = take filled input in
+      Advances.too_long (refused (samples_of bytes)
+      (subst (λ (f : Result Trace TraceError). Feeds s (firsts (samples_of bytes)) (seconds (samples_of bytes)) (fed_of s f)) e t.feeds)
+      (a_number s error))
 
-  pub goes_on : {after : List ℕ} {left : ℕ} → r.fed.refusal ≡ 0 → Moved input r.used filled after left →
-      Advances s (take filled input) after (Turn.More (record { trace = r.fed.trace; count = left }))
-  goes_on {after} {left} z (e, m) =
-      Advances.goes_on (not_refused t.feeds z)
-      (ap (take left) m ∙ take_at (part input r.used filled) (drop left input) left (sym e) ∙ left_part)
-      (e ∙ ap length left_part)
+  module _ {after : List ℕ} {left : ℕ} (moved : Moved input r.used filled after left) where
+    pub few : left ≤ 3
+    few = omega (arith, moved.0, ap length left_part, measured (take filled input))
 
--- a read leaves what was held as it was
-pub filled : (held : ℕ) (before got : List ℕ) {r : Got} → held ≤ length before → Room held (length before) r
-    → Filled held before (put_mid held (length before - held) before got) r
-filled held before got h k = record { front = take_put held (length before - held) before got h; room = k }
-
--- a read behind what was held
-pub read_on : {s : Trace} (before after : List ℕ) {last : List ℕ} (held got : ℕ) {t : Turn} → take held after ≡ take held before →
-    Advances s (take (held + got) after) last t → Turned s (take held before) last t
-read_on {s} before after {last} held got {t} e a =
-    Turned.a_block (take got (drop held after))
-    (subst (λ (l : List ℕ). Advances s l last t) (take-add held got after ∙ ap (λ (l : List ℕ). l ++ take got (drop held after)) e) a)
-
-pub room_for : {held : ℕ} {before after : List ℕ} {r : Got} {n : ℕ} → Filled held before after r → r ≡ Got.Bytes n → held + n ≤ length before
-room_for {held} {before} f e = subst (Room held (length before)) e f.room
-
--- a read that gives nothing
-module _ {s : Trace} (before : List ℕ) {after : List ℕ} (held : ℕ) (within : held ≤ length before) where
-  pub ended : {o : Outcome} → o ≡ at_end s held → Turned s (take held before) after (Turn.Ended o)
-  ended e =
-      subst (λ (o : Outcome). Turned s (take held before) after (Turn.Ended o)) (ap (at_end s) (length-take-le held before within) ∙ sym e) Turned.the_end
-
-  pub failed : {n : ℕ} → n ≡ so_far s held → Turned s (take held before) after (Turn.Ended (Outcome.Broken (Fault.Unreadable n)))
-  failed e =
-      subst (λ (n : ℕ). Turned s (take held before) after (Turn.Ended (Outcome.Broken (Fault.Unreadable n))))
-      (ap (so_far s) (length-take-le held before within) ∙ sym e) Turned.unreadable
+    pub goes_on : {h : Held} → r.fed ≡ Ok h.trace → h.count ≡ left → Advances s (take filled input) after (Ok h)
+    goes_on {h} e count_is =
+        let bytes = take filled input in
+        Advances.goes_on
+        (subst (λ (f : Result Trace TraceError). Feeds s (firsts (samples_of bytes)) (seconds (samples_of bytes)) (fed_of s f)) e t.feeds)
+        (ap (λ (n : ℕ). take n after) count_is ∙ ap (take left) moved.1 ∙ take_at (part input r.used filled) (drop left input) left (sym moved.0) ∙ left_part)
+        (count_is ∙ moved.0 ∙ ap length left_part)

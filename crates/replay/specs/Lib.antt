@@ -1,4 +1,5 @@
 pub mod Block
+pub mod Ending
 pub mod Reading
 pub mod Report
 pub mod Samples

@@ -1,60 +1,37 @@
 // A block of a trace's bytes, as two rows of counts, fed to the state.
-ghost use Rattle.std.specs.Prelude.{◌/◌, ◌≤◌, ◌≡◌, length};
+ghost use Rattle.std.specs.Prelude.{length, IsSomeAnd, IsNone};
 ghost use Rattle.bounds.specs.Within.{Within};
-ghost use Rattle.replay.specs.Samples.{count};
-ghost use Rattle.replay.specs.Block.{BLOCK, Takes, not_taken, Rows};
+ghost use Rattle.replay.specs.Block.{BLOCK, Takes};
 
-use trace::{Fed, Trace, feed};
+use trace::{Trace, TraceError, feed};
+
+// The most bytes of a block, and the most samples.
+const BYTES: usize = 65536;
+
+const SAMPLES: usize = 16384;
 
 // What the samples came to, and how many bytes they had.
 #[derive(Clone, Copy)]
 pub struct Taken {
-    pub fed: Fed,
+    pub fed: Result<Trace, TraceError>,
     pub used: usize,
 }
 
 // The whole samples of a block. One that is longer than the rows have room for is not taken.
-pub fn feed_block(trace: Trace, block: &[u8]) -> Taken
-    ensures { Within (length block.now) BLOCK (Takes trace block.now result) (result ≡ not_taken trace) }
+pub fn feed_block(trace: Trace, block: &[u8]) -> Option<Taken>
+    ensures { Within (length block.now) BLOCK (IsSomeAnd result (Takes trace block.now)) (IsNone result) }
 {
-    if 65536 < block.len() {
-        return Taken {
-            fed: Fed { refusal: 0, trace },
-            used: 0,
-        };
+    if BYTES < block.len() {
+        return None;
     }
-    let mut first = row();
-    let mut second = row();
-    split(block, &mut first, &mut second);
+    // Arrays, of which the fronts are used: an `ArrayVec` stores its length at each push, with which the program takes half as long again.
+    let mut first = [0; SAMPLES];
+    let mut second = [0; SAMPLES];
+    for (i, sample) in block.chunks_exact(4).enumerate() {
+        first[i] = u16::from_le_bytes([sample[0], sample[1]]);
+        second[i] = u16::from_le_bytes([sample[2], sample[3]]);
+    }
     let n = block.len() / 4;
     let fed = feed(trace, &first[..n], &second[..n]);
-    Taken { fed, used: n * 4 }
-}
-
-// Room for the counts of a block.
-fn row() -> [u16; 16384]
-    ensures { 16384 ≡ length result }
-{
-    [0; 16384]
-}
-
-// The samples' counts, at the front of a row for each channel.
-fn split(bytes: &[u8], first: &mut [u16], second: &mut [u16])
-    requires { (length bytes.now / 4 ≤ length first.old) × (length bytes.now / 4 ≤ length second.old) }
-    ensures { Rows bytes.now first.old second.old first.new second.new }
-{
-    let n = bytes.len() / 4;
-    let mut i = 0;
-    while i < n {
-        let at = i * 4;
-        first[i] = count(bytes[at], bytes[at + 1]);
-        second[i] = count(bytes[at + 2], bytes[at + 3]);
-        i += 1;
-    }
-}
-
-fn count(low: u8, high: u8) -> u16
-    ensures { result ≡ count low high }
-{
-    low as u16 + high as u16 * 256
+    Some(Taken { fed, used: n * 4 })
 }

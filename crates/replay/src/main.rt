@@ -3,12 +3,15 @@
 #![tactic(auto)]
 
 mod block;
+mod held;
 mod read;
 mod report;
 
-use read::{Outcome, read_trace};
-use report::{put_fault, put_report};
+use read::read_trace;
+use report::{Fault, put_fault, put_report};
 use std::io::IsTerminal;
+use text::Page;
+use trace::Trace;
 
 fn main(rt: HostRuntime) {
     let shown = rt.stderr().is_terminal();
@@ -19,16 +22,17 @@ fn main(rt: HostRuntime) {
     print(rt, outcome);
 }
 
-fn print(rt: HostRuntime, outcome: Outcome) {
+fn print(rt: HostRuntime, outcome: Result<Trace, Fault>) {
     let mut text = [0; 4096];
+    let mut page = Page::new(&mut text);
     match outcome {
-        Outcome::Whole(trace) => {
-            let end = put_report(trace, &mut text, 0);
-            let _ = rt.stdout().write_all(&text[..end]);
+        Ok(trace) => {
+            let _ = put_report(trace, &mut page);
+            let _ = rt.stdout().write_all(page.text());
         }
-        Outcome::Broken(fault) => {
-            let end = put_fault(fault, &mut text, 0);
-            let _ = rt.stderr().write_all(&text[..end]);
+        Err(fault) => {
+            let _ = put_fault(fault, &mut page);
+            let _ = rt.stderr().write_all(page.text());
         }
     }
 }

@@ -1,11 +1,12 @@
-// What is printed, written into a lent buffer: the numbers of a trace in six lines, or why there are none.
-ghost use Rattle.std.specs.Prelude.{◌+◌, ◌≤◌, length};
+// What is printed, written on a page: the numbers of a trace in six lines, or why there are none.
+ghost use Rattle.std.specs.Prelude.{◌≡◌, ◌+◌, ◌≤◌, length, IsOk};
 ghost use Rattle.text.specs.Put.{InRoom};
 ghost use Rattle.forms.specs.Says.{Said};
+ghost use Rattle.replay.specs.declared.report.Fault.TheVariants.{TooLong};
 ghost use Rattle.replay.specs.Report.{line, lead_line, difference_line, report_of, REPORT, fault_of, FAULT};
 
-use text::{put_byte, put_bytes, put_decimal, room};
-use trace::{Lead, Trace};
+use text::{Full, Page};
+use trace::{Lead, Trace, TraceError};
 
 // Why a trace has no report: it is longer than can be, ends inside a sample at this length, or cannot be read after so many bytes.
 #[derive(Clone, Copy)]
@@ -15,67 +16,73 @@ pub enum Fault {
     Unreadable(u64),
 }
 
-pub fn put_report(trace: Trace, out: &mut [u8], at: usize) -> usize
-    ensures { InRoom REPORT (Said REPORT (report_of trace)) out.old at out.new result }
-{
-    if room(out.len(), at) < 320 {
-        return out.len() + 1;
+// A block's rows have one length, so that it is refused for the trace's alone.
+impl From<TraceError> for Fault {
+    ghost from_gives = { λ _ fault. fault ≡ TooLong };
+
+    fn from(_error: TraceError) -> Fault {
+        Fault::TooLong
     }
-    let first = put_line(b"samples ", trace.samples as u64, out, at);
-    let second = put_line(b"first ", trace.first.total, out, first);
-    let difference = put_line(b"second ", trace.second.total, out, second);
-    let leads = put_difference(trace.first.total, trace.second.total, out, difference);
-    let last = put_lead(b"first leads ", trace.first_leads, out, leads);
-    put_lead(b"second leads ", trace.second_leads, out, last)
 }
 
-pub fn put_fault(fault: Fault, out: &mut [u8], at: usize) -> usize
-    ensures { InRoom FAULT (Said FAULT (fault_of fault)) out.old at out.new result }
+pub fn put_report(trace: Trace, page: &mut Page<'_>) -> Result<(), Full>
+    ensures { InRoom REPORT (Said REPORT (report_of trace)) page.old page.new result }
 {
-    if room(out.len(), at) < 80 {
-        return out.len() + 1;
+    if page.room() < 320 {
+        return Err(Full);
+    }
+    put_line(b"samples ", u64::from(trace.samples), page)?;
+    put_line(b"first ", trace.first.total, page)?;
+    put_line(b"second ", trace.second.total, page)?;
+    put_difference(trace.first.total, trace.second.total, page)?;
+    put_lead(b"first leads ", trace.first_leads, page)?;
+    put_lead(b"second leads ", trace.second_leads, page)
+}
+
+pub fn put_fault(fault: Fault, page: &mut Page<'_>) -> Result<(), Full>
+    ensures { InRoom FAULT (Said FAULT (fault_of fault)) page.old page.new result }
+{
+    if page.room() < 80 {
+        return Err(Full);
     }
     match fault {
-        Fault::TooLong => put_bytes(b"replay: refused 19: more than 16777216 samples\n", out, at),
+        Fault::TooLong => page.put_bytes(b"replay: refused 19: more than 16777216 samples\n"),
         Fault::Unfinished(n) => {
-            put_line(
-                b"replay: the trace ends inside a sample, at byte ",
-                n,
-                out,
-                at,
-            )
+            put_line(b"replay: the trace ends inside a sample, at byte ", n, page)
         }
         Fault::Unreadable(n) => {
-            put_line(b"replay: the trace cannot be read, after byte ", n, out, at)
+            put_line(b"replay: the trace cannot be read, after byte ", n, page)
         }
     }
 }
 
-fn put_line(name: &[u8], n: u64, out: &mut [u8], at: usize) -> usize
-    requires { at + (length name.now + 21) ≤ length out.old }
-    ensures { Said (length name.now + 21) (line name.now n) out.old at out.new result }
+#[tactic(auto, using(crate::proofs::Printing::twenty))]
+fn put_line(name: &[u8], n: u64, page: &mut Page<'_>) -> Result<(), Full>
+    requires { length name.now + 21 ≤ length page.old.rest }
+    ensures { IsOk result × Said (length name.now + 21) (line name.now n) page.old page.new }
 {
-    let number = put_bytes(name, out, at);
-    let end = put_decimal(n, out, number);
-    put_byte(10, out, end)
+    page.put_bytes(name)?;
+    page.put_decimal(n)?;
+    page.put_byte(b'\n')
 }
 
-fn put_difference(first: u64, second: u64, out: &mut [u8], at: usize) -> usize
-    requires { at + 33 ≤ length out.old }
-    ensures { Said 33 (difference_line first second) out.old at out.new result }
+fn put_difference(first: u64, second: u64, page: &mut Page<'_>) -> Result<(), Full>
+    requires { 33 ≤ length page.old.rest }
+    ensures { IsOk result × Said 33 (difference_line first second) page.old page.new }
 {
     if first < second {
-        put_line(b"difference -", second - first, out, at)
+        put_line(b"difference -", second - first, page)
     } else {
-        put_line(b"difference ", first - second, out, at)
+        put_line(b"difference ", first - second, page)
     }
 }
 
-fn put_lead(name: &[u8], lead: Lead, out: &mut [u8], at: usize) -> usize
-    requires { at + (length name.now + 45) ≤ length out.old }
-    ensures { Said (length name.now + 45) (lead_line name.now lead) out.old at out.new result }
+#[tactic(auto, using(crate::proofs::Printing::twenty))]
+fn put_lead(name: &[u8], lead: Lead, page: &mut Page<'_>) -> Result<(), Full>
+    requires { length name.now + 45 ≤ length page.old.rest }
+    ensures { IsOk result × Said (length name.now + 45) (lead_line name.now lead) page.old page.new }
 {
-    let ticks = put_bytes(name, out, at);
-    let end = put_decimal(lead.ticks, out, ticks);
-    put_line(b" at ", lead.at as u64, out, end)
+    page.put_bytes(name)?;
+    page.put_decimal(lead.ticks)?;
+    put_line(b" at ", u64::from(lead.at), page)
 }

@@ -1,50 +1,45 @@
 -- One word, read by the kind that a shape asks for.
-use Rattle.std.specs.Prelude.{ℕ, cond, List, [], ◌∷◌, eqb, ltb}
+use Rattle.std.specs.Prelude.{ℕ, cond, List, [], ◌∷◌, ltb, Option, Some, None, Result, Ok, Err}
 use Rattle.text.specs.Bytes.{bytes}
 use Rattle.words.specs.Reading.{decimal_of, hex_of}
 use Rattle.words.specs.Words.{words, place_of}
-use Rattle.words.specs.declared.read.Number.{Number}
-use Rattle.words.specs.declared.read.Hex.{Hex}
-use Rattle.words.specs.declared.split.Placed.{Placed}
-use Rattle.shapes.specs.declared.fields.Fault.TheVariants as Fault
-use Rattle.shapes.specs.declared.fields.FieldRead.{FieldRead}
+use Rattle.words.specs.declared.read.NumberError.{NumberError}
+use Rattle.words.specs.declared.read.HexError.{HexError}
+use Rattle.shapes.specs.Fault.{of_number, of_hex}
+use Rattle.shapes.specs.declared.fields.Fault.{Fault}
+use Rattle.shapes.specs.declared.kind.Kind.{Kind}
+use Rattle.shapes.specs.declared.kind.Kind.TheVariants.{Register, Speed, Pll, Flag, Byte, HalfWord, Number}
 
 -- a decimal number of at most `most`
-abbrev pub up_to : ℕ → Number → FieldRead
-up_to most (Number.Value v) = cond (ltb most v) (FieldRead.Bad Fault.TooLarge) (FieldRead.Value v)
-up_to most Number.Empty = FieldRead.Bad Fault.Empty
-up_to most Number.NotADigit = FieldRead.Bad Fault.NotANumber
-up_to most Number.TooLarge = FieldRead.Bad Fault.TooLarge
+abbrev pub up_to : ℕ → Result ℕ NumberError → Result ℕ Fault
+up_to most (Ok v) = cond (ltb most v) (Err Fault.TooLarge) (Ok v)
+up_to most (Err e) = Err (of_number e)
 
-abbrev pub number : ℕ → List ℕ → FieldRead
+abbrev pub number : ℕ → List ℕ → Result ℕ Fault
 number most word = up_to most (decimal_of word)
 
 -- a word of eight hex digits
-abbrev pub eight_digits : Hex → FieldRead
-eight_digits (Hex.Value v) = FieldRead.Value v
-eight_digits Hex.Empty = FieldRead.Bad Fault.Empty
-eight_digits Hex.NotEightDigits = FieldRead.Bad Fault.NotEightDigits
+abbrev pub eight_digits : Result ℕ HexError → Result ℕ Fault
+eight_digits (Ok v) = Ok v
+eight_digits (Err e) = Err (of_hex e)
 
-abbrev pub register : List ℕ → FieldRead
+abbrev pub register : List ℕ → Result ℕ Fault
 register word = eight_digits (hex_of word)
 
 -- one of a few names, read as its place among them
-abbrev pub known : Placed → FieldRead
-known (Placed.At i) = FieldRead.Value i
-known Placed.Nowhere = FieldRead.Bad Fault.NoSuchName
+abbrev pub known : Option ℕ → Result ℕ Fault
+known (Some i) = Ok i
+known None = Err Fault.NoSuchName
 
-unfoldable pub name : List (List ℕ) → List ℕ → FieldRead
-name names [] = FieldRead.Bad Fault.Empty
+unfoldable pub name : List (List ℕ) → List ℕ → Result ℕ Fault
+name names [] = Err Fault.Empty
 name names (c ∷ word) = known (place_of (c ∷ word) names)
 
--- the largest number of a kind that is a number: `f` 1, `b` 255, `h` 65535, any other 32 bits
-unfoldable pub most : ℕ → ℕ
-most kind = cond (eqb kind 102) 1 (cond (eqb kind 98) 255 (cond (eqb kind 104) 65535 4294967295))
-
--- `w` is a word of eight hex digits, `s` a speed of the I2C bus, `p` a PLL, and any other kind a number
-unfoldable pub field_of : ℕ → List ℕ → FieldRead
-field_of kind word =
-    cond (eqb kind 119) (register word)
-    (cond (eqb kind 115) (name (words (bytes "normal fast")) word)
-    (cond (eqb kind 112) (name (words (bytes "arm ddr io")) word)
-    (number (most kind) word)))
+abbrev pub field_of : Kind → List ℕ → Result ℕ Fault
+field_of Register word = register word
+field_of Speed word = name (words (bytes "normal fast")) word
+field_of Pll word = name (words (bytes "arm ddr io")) word
+field_of Flag word = number 1 word
+field_of Byte word = number 255 word
+field_of HalfWord word = number 65535 word
+field_of Number word = number 4294967295 word

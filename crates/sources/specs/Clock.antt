@@ -1,13 +1,9 @@
 -- A clock is a PLL and the product of its divisors; its frequency is the PLL's output over that product, rounded down.
-use Rattle.std.specs.Prelude.{ℕ, ◌*◌, ◌/◌}
+use Rattle.std.specs.Prelude.{ℕ, ◌*◌, ◌/◌, Option, Some, None}
 use Rattle.fields.specs.Word.{read_field}
 use Rattle.registers.specs.declared.PllType.{PllType}
 use Rattle.registers.specs.Fields.{DIVISOR, DIVISOR_1}
 use Rattle.sources.specs.declared.PllOutputs.{PllOutputs}
-use Rattle.sources.specs.declared.TraceClk.{TraceClk}
-use Rattle.sources.specs.declared.TraceClk.TheVariants as clk
-use Rattle.sources.specs.declared.TraceSource.{TraceSource}
-use Rattle.sources.specs.declared.TraceSource.TheVariants.{From, Emio}
 use Rattle.sources.specs.Source.{output_of, io_source, trace_source}
 
 pub record Clock : Type 0 where
@@ -31,9 +27,9 @@ abbrev pub traced : PllType → ℕ → Clock
 traced pll word = record { source = pll; product = read_field word DIVISOR }
 
 -- the trace clock by its source: under EMIO there is none
-abbrev pub trace_from : PllOutputs → ℕ → TraceSource → TraceClk
-trace_from out word (From pll) = clk.Hertz (frequency out (traced pll word))
-trace_from out word Emio = clk.Emio
+abbrev pub trace_from : PllOutputs → ℕ → Option PllType → Option ℕ
+trace_from out word (Some pll) = Some (frequency out (traced pll word))
+trace_from out word None = None
 
-abbrev pub trace_clk : PllOutputs → ℕ → TraceClk
+abbrev pub trace_clk : PllOutputs → ℕ → Option ℕ
 trace_clk out word = trace_from out word (trace_source word)

@@ -1,12 +1,10 @@
 -- A PLL's output, and the PLL that a clock word selects: document 01, "The image and its fields" and "Evaluation", with W-205.
-use Rattle.std.specs.Prelude.{ℕ, ◌*◌, Bool, cond, List, [], ◌∷◌, eqb, get_or}
+use Rattle.std.specs.Prelude.{ℕ, ◌*◌, Bool, cond, List, [], ◌∷◌, Option, Some, None, eqb, get_or}
 use Rattle.fields.specs.Word.{read_field}
 use Rattle.registers.specs.declared.PllType.{PllType}
 use Rattle.registers.specs.declared.PllType.TheVariants.{Arm, Ddr, Io}
 use Rattle.registers.specs.Fields.{BYPASS_FORCE, FDIV, SOURCE, TRACE_SOURCE}
 use Rattle.sources.specs.declared.PllOutputs.{PllOutputs}
-use Rattle.sources.specs.declared.TraceSource.{TraceSource}
-use Rattle.sources.specs.declared.TraceSource.TheVariants.{From, Emio}
 
 -- a PLL is bypassed by the force bit alone: qualifier, reset and power-down change nothing
 abbrev pub bypassed : ℕ → Bool
@@ -34,6 +32,6 @@ arm_source word = by_code (Arm ∷ Arm ∷ Ddr ∷ []) Io (read_field word SOURC
 unfoldable pub io_source : ℕ → PllType
 io_source word = by_code (Io ∷ Io ∷ Arm ∷ []) Ddr (read_field word SOURCE)
 
--- the source field of the trace word, one bit wider: 4 to 7 is EMIO
-unfoldable pub trace_source : ℕ → TraceSource
-trace_source word = by_code (From Io ∷ From Io ∷ From Arm ∷ From Ddr ∷ []) Emio (read_field word TRACE_SOURCE)
+-- the source field of the trace word, one bit wider: 4 to 7 is EMIO, and no PLL
+unfoldable pub trace_source : ℕ → Option PllType
+trace_source word = by_code (Some Io ∷ Some Io ∷ Some Arm ∷ Some Ddr ∷ []) None (read_field word TRACE_SOURCE)

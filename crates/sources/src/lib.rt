@@ -16,21 +16,8 @@ pub struct PllOutputs {
     pub io_pll_out: u32,
 }
 
-// What the trace clock comes from: a PLL, or a clock that the EMIO brings from outside.
-#[derive(Clone, Copy)]
-pub enum TraceSource {
-    From(PllType),
-    Emio,
-}
-
-// The trace clock has a case of its own where its word selects the EMIO: then the chip gives it no clock.
-#[derive(Clone, Copy)]
-pub enum TraceClk {
-    Hertz(u32),
-    Emio,
-}
-
 // The crystal where the PLL is bypassed, else the crystal times FDIV, which can pass 32 bits.
+#[tactic(auto, unfolding(crate::specs::Source::pll_output))]
 pub fn pll_output(crystal: u32, control: u32) -> u64
     ensures { result ≡ pll_output crystal control }
 {
@@ -53,6 +40,8 @@ impl PllOutputs {
 }
 
 // The PLL that the ARM word selects.
+#[tactic(auto, unfolding(crate::specs::Source::arm_source))]
+// Each kind of word has source codes of its own, as document 01 lists them: a table each, and no one table with another number.
 pub fn arm_source(arm: u32) -> PllType
     ensures { result ≡ arm_source arm }
 {
@@ -64,6 +53,7 @@ pub fn arm_source(arm: u32) -> PllType
 }
 
 // The PLL that any other clock word selects.
+#[tactic(auto, unfolding(crate::specs::Source::io_source))]
 pub fn io_source(word: u32) -> PllType
     ensures { result ≡ io_source word }
 {
@@ -74,15 +64,16 @@ pub fn io_source(word: u32) -> PllType
     }
 }
 
-// What the trace word selects.
-pub fn trace_source(word: u32) -> TraceSource
+// The PLL that the trace word selects, or none where it selects the EMIO, which brings a clock from outside.
+#[tactic(auto, unfolding(crate::specs::Source::trace_source))]
+pub fn trace_source(word: u32) -> Option<PllType>
     ensures { result ≡ trace_source word }
 {
     match read_field(word, TRACE_SOURCE) {
-        0 | 1 => TraceSource::From(PllType::Io),
-        2 => TraceSource::From(PllType::Arm),
-        3 => TraceSource::From(PllType::Ddr),
-        _ => TraceSource::Emio,
+        0 | 1 => Some(PllType::Io),
+        2 => Some(PllType::Arm),
+        3 => Some(PllType::Ddr),
+        _ => None,
     }
 }
 
@@ -91,30 +82,33 @@ pub fn trace_source(word: u32) -> TraceSource
 pub fn divided(hertz: u32, divisor: u32) -> u32
     ensures { result ≡ hertz / divisor }
 {
-    if divisor == 0 { 0 } else { hertz / divisor }
+    hertz.checked_div(divisor).unwrap_or(0)
 }
 
-// The clock of a word with one divisor.
-pub fn single_clock(out: PllOutputs, word: u32) -> u32
-    ensures { result ≡ frequency out (single word) }
-{
-    divided(out.of(io_source(word)), read_field(word, DIVISOR))
-}
+// The clocks of a word of the image.
+impl PllOutputs {
+    // With one divisor.
+    // One divisor or two: formulas of their own, and not one with another number.
+    pub fn single_clock(self, word: u32) -> u32
+        ensures { result ≡ frequency self (single word) }
+    {
+        divided(self.of(io_source(word)), read_field(word, DIVISOR))
+    }
 
-// The clock of a word with two divisors.
-pub fn dual_clock(out: PllOutputs, word: u32) -> u32
-    ensures { result ≡ frequency out (dual word) }
-{
-    let once = divided(out.of(io_source(word)), read_field(word, DIVISOR));
-    divided(once, read_field(word, DIVISOR_1))
-}
+    // With two divisors.
+    #[tactic(auto, using(crate::proofs::Laws::twice))]
+    pub fn dual_clock(self, word: u32) -> u32
+        ensures { result ≡ frequency self (dual word) }
+    {
+        let once = divided(self.of(io_source(word)), read_field(word, DIVISOR));
+        divided(once, read_field(word, DIVISOR_1))
+    }
 
-// The trace clock.
-pub fn trace_clock(out: PllOutputs, word: u32) -> TraceClk
-    ensures { result ≡ trace_clk out word }
-{
-    match trace_source(word) {
-        TraceSource::From(pll) => TraceClk::Hertz(divided(out.of(pll), read_field(word, DIVISOR))),
-        TraceSource::Emio => TraceClk::Emio,
+    // The trace clock. Where its word selects the EMIO the chip gives it none.
+    pub fn trace_clock(self, word: u32) -> Option<u32>
+        ensures { result ≡ trace_clk self word }
+    {
+        let pll = trace_source(word)?;
+        Some(divided(self.of(pll), read_field(word, DIVISOR)))
     }
 }

@@ -1,5 +1,5 @@
 -- Document 01's starred cases, as one table in its order: what each call is given, and what it must tell.
-use Rattle.std.specs.Prelude.{ℕ, ◌≡◌, List, [], ◌∷◌}
+use Rattle.std.specs.Prelude.{ℕ, ◌≡◌, List, [], ◌∷◌, Option, None, Some}
 use Rattle.refusals.specs.Told.{Told, answered, refused}
 use Rattle.refusals.specs.Number.{MUL_RANGE, SPEED}
 use Rattle.two_stage.specs.Best.{frequency}
@@ -10,8 +10,6 @@ use Rattle.i2c.specs.declared.Speed.{Speed}
 use Rattle.i2c.specs.declared.Speed.TheVariants.{Normal100kHz}
 use Rattle.i2c.specs.declared.ClockConfig.{ClockConfig}
 use Rattle.ttc.specs.Interval.{Right as RightInterval}
-use Rattle.ttc.specs.declared.PrescalerReg.{PrescalerReg}
-use Rattle.ttc.specs.declared.PrescalerReg.TheVariants.{None, Value}
 use Rattle.ttc.specs.declared.Setting.{Setting}
 use Rattle.pll_settings.specs.Settings.{Right as RightMultiplier, RightTarget}
 use Rattle.pll_settings.specs.declared.PllConfig.{PllConfig}
@@ -39,7 +37,7 @@ pair d0 d1 = answered (record { div0 = d0; div1 = d1 })
 abbrev pub raw : ℕ → ℕ → Told ClockConfig
 raw a b = answered (record { div_a = a; div_b = b })
 
-abbrev pub interval : PrescalerReg → ℕ → Told Setting
+abbrev pub interval : Option ℕ → ℕ → Told Setting
 interval p t = answered (record { prescaler_reg = p; interval_ticks = t })
 
 abbrev pub row : ℕ → ℕ → ℕ → ℕ → Told PllConfig
@@ -57,9 +55,9 @@ starred =
     ∷ i2c 111_111_111 Normal100kHz (raw 0 55)
     ∷ i2c 506_880_000 Normal100kHz (raw 3 63)
     ∷ i2c 506_880_001 Normal100kHz (refused SPEED [])
-    ∷ ttc 4_294_967_295 1 (interval (Value 15) 65_535)
+    ∷ ttc 4_294_967_295 1 (interval (Some 15) 65_535)
     ∷ ttc 65_535 1 (interval None 65_535)
-    ∷ ttc 65_536 1 (interval (Value 0) 32_768)
+    ∷ ttc 65_536 1 (interval (Some 0) 32_768)
     ∷ pll_target 33_333_333 1_333_333_320 (row 40 2 2 250)
     ∷ pll_target 33_333_333 1_333_333_319 (row 39 2 2 250)
     ∷ pll_mul 12 (refused MUL_RANGE (12 ∷ []))

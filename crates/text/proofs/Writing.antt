@@ -1,90 +1,58 @@
--- Laws of what writers leave: how a writer of one byte or of a run of bytes comes to its promise, and that what two
--- writers leave one after the other is what one writer of both texts would have left.
+-- Laws of what writers leave: how a run of bytes comes to its promise, and that what two writers leave one after the other
+-- is what one writer of both texts would have left.
 use mathlib.Core.Path.{◌≡◌, refl, sym, ap, ◌∙◌, subst}
-use mathlib.Core.List.{List, [], ◌∷◌, ◌++◌, append_assoc, append-nil}
-use Prim.Native.Nat.{ℕ, suc, ◌+◌, ◌≤◌, ◌<◌}
+use mathlib.Core.List.{List, [], ◌++◌, append_assoc, append-nil}
+use Prim.Native.Nat.{ℕ, ◌+◌, ◌-◌, ◌≤◌}
 use native.Mathlib.Nat.{add-zero}
-use native.Mathlib.Numerals.{add-one}
 use native.Mathlib.Omega.{arith}
-use lib.ListN.{length, take, drop, set, get_or, length-append, length-take, length-drop, take-append-drop}
-use lib.Seq.{paste, paste-suc, take-length, set_split, append_snoc, drop-drop, take_at, drop_at}
+use lib.ListN.{length, take, drop, length-append, length-drop}
+use lib.Seq.{drop-drop}
+use borrow.Rule.Slice.PartMut.{put_mid}
+use Rattle.std.specs.Prelude.{Result, Err, IsOk}
+use Rattle.std.proofs.lemmas.Slice.{take-put_mid, drop-put_mid}
+use Rattle.text.specs.Page.{Contents}
 use Rattle.text.specs.Put.{Wrote, Put}
+use Rattle.text.specs.declared.page.Full.{Full}
 
-pub no_room : (text l : List ℕ) (at : ℕ) → length l < at + length text → Put text l at l (length l + 1)
-no_room text l at h = record { fits = λ f. absurd (omega arith); full = λ _. (refl, refl) }
+-- the bytes from a position up to `end`, with the text in their place
+module _ (bytes text part : List ℕ) (at end : ℕ) (part_is : part ≡ text) (end_is : end ≡ at + length text) (inside : end ≤ length bytes) where
+  long : length part ≡ length text
+  long = ap length part_is
 
-pub room : (text l : List ℕ) (at k : ℕ) (after : List ℕ) → at + k ≤ length l → length text ≡ k → after ≡ paste l at text k → Put text l at after (at + k)
-room text l at k after h e p =
-    record {
-      fits = λ _. record {
-        inside = h;
-        next_is = ap (λ (n : ℕ). at + n) (sym e);
-        after_is = p ∙ ap (λ (n : ℕ). paste l at text n) (sym e)
-            ∙ ap (λ (t : List ℕ). take at l ++ t ++ drop (at + length text) l) (take-length text);
-      };
-      full = λ f. absurd (omega arith);
-    }
+  text_is : take end (put_mid at (end - at) bytes part) ≡ take at bytes ++ text
+  text_is = take-put_mid at (end - at) bytes part end (omega (arith, long)) (omega arith) ∙ ap (λ (t : List ℕ). take at bytes ++ t) part_is
 
--- a text by another name
-pub same_text : {t u before : List ℕ} {at : ℕ} {after : List ℕ} {next : ℕ} → t ≡ u → Put t before at after next → Put u before at after next
-same_text {before = before} {at} {after} {next} e p = subst (λ (l : List ℕ). Put l before at after next) e p
+  rest_is : drop end (put_mid at (end - at) bytes part) ≡ drop (length text) (drop at bytes)
+  rest_is =
+      drop-put_mid at (end - at) bytes part end (omega arith) (omega arith) (omega (arith, long))
+      ∙ ap (λ (n : ℕ). drop n bytes) end_is
+      ∙ sym (drop-drop (length text) at bytes)
 
-pub one_byte : (b : ℕ) (l : List ℕ) (at : ℕ) → at < length l → Put (b ∷ []) l at (set l at b) (at + 1)
-one_byte b l at h =
-    record {
-      fits = λ _. record { next_is = refl; inside = omega arith; after_is = set_split l at b h ∙ sym (append_snoc (take at l) b (drop (suc at) l)) ∙ ap (λ (n : ℕ). take at l ++ (b ∷ []) ++ drop n l) (sym (add-one at)) };
-      full = λ f. absurd (omega arith);
-    }
-
--- one byte more of a text that is being copied in
-pub copied_more : (text before : List ℕ) (at i : ℕ) (out : List ℕ) → at + length text ≤ length before → i < length text → out ≡ paste before at text i → set out (at + i) (get_or text i 0) ≡ paste before at text (i + 1)
-copied_more text before at i out h l e =
-    ap (λ (o : List ℕ). set o (at + i) (get_or text i 0)) e
-    ∙ paste-suc before at text i 0 (omega arith) l
-    ∙ ap (λ (n : ℕ). paste before at text n) (sym (add-one i))
-
--- nothing written
-pub nothing : (before : List ℕ) (at : ℕ) → at ≤ length before → Wrote [] before at before at
-nothing before at h =
-    record {
-      next_is = sym (add-zero at);
-      inside = h;
-      after_is = sym (ap (λ (l : List ℕ). l ++ drop (at + 0) before) (append-nil (take at before)) ∙ ap (λ (n : ℕ). take at before ++ drop n before) (add-zero at) ∙ take-append-drop at before);
-    }
-
--- what a writer leaves is as long as what it was lent
-pub as_long : {text before : List ℕ} {at : ℕ} {after : List ℕ} {next : ℕ} → Wrote text before at after next → length after ≡ length before
-as_long w = ap length w.after_is ∙ simp (length-append, length-take, length-drop) (omega (arith, w.next_is, w.inside))
-
-pub still_inside : {text before : List ℕ} {at : ℕ} {after : List ℕ} {next : ℕ} → Wrote text before at after next → next ≤ length after
-still_inside w = omega (arith, w.inside, as_long w)
-
--- two writers in a row
-module _ {t u before : List ℕ} {at : ℕ} {middle : List ℕ} {n : ℕ} {after : List ℕ} {next : ℕ} (w : Wrote t before at middle n) (v : Wrote u middle n after next) where
-  front : length (take at before ++ t) ≡ n
-  front = simp (length-append, length-take) (omega (arith, w.next_is, w.inside))
-
-  together : at + length t + length u ≡ at + length (t ++ u)
-  together = omega (arith, length-append t u)
-
-  rest : drop (n + length u) middle ≡ drop (at + length (t ++ u)) before
-  rest =
-      sym (drop-drop (length u) n middle)
-      ∙ ap (λ (l : List ℕ). drop (length u) l) (ap (drop n) w.after_is ∙ drop_at (take at before ++ t) (drop (at + length t) before) n front)
-      ∙ drop-drop (length u) (at + length t) before
-      ∙ ap (λ (k : ℕ). drop k before) together
-
-  pub then : Wrote (t ++ u) before at after next
-  then =
+  pub copied : (before : Contents) → record { text = take at bytes; rest = drop at bytes } ≡ before → Wrote text before (record { text = take end (put_mid at (end - at) bytes part); rest = drop end (put_mid at (end - at) bytes part) })
+  copied before e =
       record {
-        next_is = omega (arith, v.next_is, w.next_is, length-append t u);
-        inside = omega (arith, v.inside, as_long w);
-        after_is = v.after_is
-            ∙ ap (λ (l : List ℕ). l ++ u ++ drop (n + length u) middle) (ap (take n) w.after_is ∙ take_at (take at before ++ t) (drop (at + length t) before) n front)
-            ∙ ap (λ (l : List ℕ). take at before ++ t ++ u ++ l) rest
-            ∙ ap (λ (l : List ℕ). l ++ drop (at + length (t ++ u)) before) (append_assoc (take at before) t u);
+        text_is = text_is ∙ ap (λ (p : Contents). p.text ++ text) e;
+        rest_is = rest_is ∙ ap (λ (p : Contents). drop (length text) p.rest) e;
+        inside = omega (arith, ap length rest_is, ap (λ (p : Contents). length p.rest) e, length-drop (length text) (drop at bytes), length-drop at bytes);
       }
 
--- the same where the second is told only that there is room
-pub more : {t u before : List ℕ} {at : ℕ} {middle : List ℕ} {n : ℕ} {after : List ℕ} {next : ℕ} → Wrote t before at middle n → Put u middle n after next → n + length u ≤ length before → Wrote (t ++ u) before at after next
-more w p h = then w (p.fits (omega (arith, as_long w)))
+-- a text by another name
+pub same_text : {t u : List ℕ} {before after : Contents} (r : Result Unit Full) → t ≡ u → Put t before after r → Put u before after r
+same_text {before = before} {after} r e p = subst (λ (l : List ℕ). Put l before after r) e p
+
+-- nothing written
+pub nothing : (page : Contents) → Wrote [] page page
+nothing page = record { text_is = sym (append-nil page.text); rest_is = refl; inside = add-zero (length page.rest) }
+
+-- two writers in a row
+pub then : {t u : List ℕ} {before middle after : Contents} → Wrote t before middle → Wrote u middle after → Wrote (t ++ u) before after
+then {t} {u} {before} w v =
+    record {
+      text_is = v.text_is ∙ ap (λ (l : List ℕ). l ++ u) w.text_is ∙ append_assoc before.text t u;
+      rest_is = v.rest_is ∙ ap (λ (l : List ℕ). drop (length u) l) w.rest_is ∙ drop-drop (length u) (length t) before.rest ∙ ap (λ (n : ℕ). drop n before.rest) (sym (length-append t u));
+      inside = omega (arith, v.inside, w.inside, length-append t u);
+    }
+
+-- a writer that has room does not refuse
+pub never_full : {P : Type 0} (r : Result Unit Full) {e : Full} → IsOk r → r ≡ Err e → P
+never_full r {e} ok is = absurd (let no : IsOk {T = Unit {0}} (Err e) = rw is at ok in cc)

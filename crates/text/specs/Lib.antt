@@ -1,3 +1,4 @@
 pub mod Bytes
 pub mod Digits
+pub mod Page
 pub mod Put

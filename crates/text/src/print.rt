@@ -2,22 +2,25 @@
 ghost use Rattle.text.specs.Digits.{decimal, hex};
 ghost use Rattle.text.specs.Put.{Put};
 
-use crate::put_bytes;
+use crate::{Full, Page};
 
-// In decimal, with no zero in front.
-pub fn put_decimal(n: u64, out: &mut [u8], at: usize) -> usize
-    ensures { Put (decimal n) out.old at out.new result }
-{
-    let mut digits = [0u8; 20];
-    let k = io::decimal(n, &mut digits);
-    put_bytes(&digits[..k], out, at)
-}
+impl<'a> Page<'a> {
+    // In decimal, with no zero in front.
+    // The kit's printing fills a buffer and says how many digits there are.
+    pub fn put_decimal(&mut self, n: u64) -> Result<(), Full>
+        ensures { Put (decimal n) self.old self.new result }
+    {
+        let mut digits = [0; 20];
+        let k = io::decimal(n, &mut digits);
+        self.put_bytes(&digits[..k])
+    }
 
-// As eight hex digits, in lower case.
-pub fn put_hex(n: u32, out: &mut [u8], at: usize) -> usize
-    ensures { Put (hex n) out.old at out.new result }
-{
-    let mut digits = [0u8; 16];
-    let k = io::hex(n as u64, 8, &mut digits);
-    put_bytes(&digits[..k], out, at)
+    // As eight hex digits, in lower case.
+    pub fn put_hex(&mut self, n: u32) -> Result<(), Full>
+        ensures { Put (hex n) self.old self.new result }
+    {
+        let mut digits = [0; 16];
+        let k = io::hex(u64::from(n), 8, &mut digits);
+        self.put_bytes(&digits[..k])
+    }
 }

@@ -10,11 +10,6 @@ pub step_self : (a : ℕ) → step a a ≡ 0
 unfolding step
 step_self a = omega arith
 
--- what wrapping subtraction gives
-pub wrapped : {r a b : ℕ} → r < RANGE → a < RANGE → (r + a) % RANGE ≡ b → r ≡ step a b
-unfolding step
-wrapped h k e = omega arith
-
 -- counts of 16 bits of real counts
 pub true_step : {a b : ℕ} → a ≤ b → b < a + RANGE → step (a % RANGE) (b % RANGE) ≡ b - a
 unfolding step

@@ -5,7 +5,7 @@ use Rattle.trace.specs.declared.Trace.{Trace}
 use Rattle.trace.specs.Counts.{step, ticks, last_of}
 use Rattle.trace.specs.Leads.{Greatest}
 use Rattle.trace.specs.Numbers.{channel}
-use Rattle.trace.specs.Parts.{MOST, prior, Onward}
+use Rattle.trace.specs.Parts.{prior, Onward}
 use Rattle.trace.specs.Sampled.{counted, raised, sampled, with_lasts, begun}
 use Rattle.trace.proofs.Counting.{ticks_more}
 use Rattle.trace.proofs.Leading.{none_yet, next}
@@ -65,10 +65,11 @@ module _ {xs ys : List ℕ} {s c : Trace} {i : ℕ} (g : Going xs ys s c i) wher
         second_leads = subst (Greatest _ _ _ _) (sym (ap₂ (raised c.second_leads) (ap₂ behind two one) g.samples)) (next g.second_leads);
       }
 
-  pub more : {t : Trace} → length xs ≡ length ys → i < length xs → t ≡ sampled c (get_or xs i 0) (get_or ys i 0) → Going xs ys s t (i + 1)
-  more as_long h t_is =
-      subst (λ (t : Trace). Going xs ys s t (i + 1)) (sym t_is)
-      (subst (Going xs ys s (sampled c (get_or xs i 0) (get_or ys i 0))) (let e : suc i ≡ i + 1 = omega arith in e) (one_more as_long h))
+  pub more : {t : Trace} {x y n : ℕ} → length xs ≡ length ys → i < length xs → x ≡ get_or xs i 0 → y ≡ get_or ys i 0 → t ≡ sampled c x y → n ≡ suc i
+      → Going xs ys s t n
+  more {t} as_long h x_is y_is t_is n_is =
+      subst (Going xs ys s t) (sym n_is)
+      (subst (λ (t : Trace). Going xs ys s t (suc i)) (sym (t_is ∙ ap₂ (sampled c) x_is y_is)) (one_more as_long h))
 
 -- ---- the whole part
 
@@ -97,16 +98,6 @@ ends p (n ∷ counts) = ends n counts
 any_other : (p d : ℕ) (counts : List ℕ) → 0 < length counts → last_of p counts ≡ last_of d counts
 any_other p d [] h = absurd (not-suc-le-zero h)
 any_other p d (n ∷ counts) h = refl
-
-pub room : (s : Trace) {r c : Trace} {xs ys : List ℕ} {i : ℕ} (x y : ℕ) → s.samples + length xs ≤ MOST → r ≡ begun s x y → Going xs ys r c i → i < length xs
-    → c.samples < MOST
-room s {r} {c} x y most r_is g h =
-    let e : r.samples ≡ s.samples = ap (λ (t : Trace). t.samples) r_is ∙ either (eqb s.samples 0) in
-    omega (arith, g.samples)
-  where
-    either : (anew : Bool) → (cond anew (with_lasts s x y) s).samples ≡ s.samples
-    either true = refl
-    either false = refl
 
 pub done : {s r c : Trace} {xs ys : List ℕ} {i : ℕ} → length xs ≡ length ys → 0 < length xs → r ≡ begun s (get_or xs 0 0) (get_or ys 0 0)
     → Going xs ys r c i → length xs ≤ i → Onward s xs ys c

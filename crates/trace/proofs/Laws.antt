@@ -3,10 +3,13 @@ use Rattle.std.proofs.Common.{◌≡◌, ℕ, suc, ◌^◌, ◌<◌, ◌≤◌, 
 use lib.IntN.{sub_ℕ}
 use Rattle.trace.specs.declared.Channel.{Channel}
 use Rattle.trace.specs.declared.Fed.{Fed}
+use Rattle.std.specs.Prelude.{Result, Ok, Err}
 use Rattle.trace.specs.declared.Trace.{Trace}
+use Rattle.trace.specs.declared.TraceError.{TraceError}
+use Rattle.trace.specs.declared.TraceError.TheVariants.{BadRows, TraceLong}
 use Rattle.trace.specs.Difference.{difference}
 use Rattle.trace.specs.Numbers.{Sample, firsts, seconds, ahead_at, Numbers, nothing}
-use Rattle.trace.specs.Parts.{MOST, Onward, fed, Feeds, bad_rows, trace_long, goes_on}
+use Rattle.trace.specs.Parts.{MOST, Onward, fed, fed_of, Feeds, bad_rows, trace_long, goes_on}
 use Rattle.trace.proofs.Going.{stays}
 use Rattle.trace.proofs.Joining.{fits}
 use Rattle.trace.proofs.Leading.{none_yet, same_lead}
@@ -31,6 +34,21 @@ unique (trace_long e h) (goes_on e' k p) = absurd (omega arith)
 unique (goes_on e k p) (bad_rows h) = absurd (h e)
 unique (goes_on e k p) (trace_long e' h) = absurd (omega arith)
 unique (goes_on e h p) (goes_on e' k q) = ap (fed 0) (one_onward p q)
+
+-- so a call has one result
+pub one_result : {s : Trace} {xs ys : List ℕ} {a b : Result Trace TraceError} → Feeds s xs ys (fed_of s a) → Feeds s xs ys (fed_of s b) → a ≡ b
+one_result {s} {a = a} {b} p q = of_fed a b (unique p q)
+  where
+    of_fed : (a b : Result Trace TraceError) → fed_of s a ≡ fed_of s b → a ≡ b
+    of_fed (Ok r) (Ok t) e = ap Ok (ap (λ (f : Fed). f.trace) e)
+    of_fed (Ok r) (Err BadRows) e = absurd (omega (arith, ap (λ (f : Fed). f.refusal) e))
+    of_fed (Ok r) (Err TraceLong) e = absurd (omega (arith, ap (λ (f : Fed). f.refusal) e))
+    of_fed (Err BadRows) (Ok t) e = absurd (omega (arith, ap (λ (f : Fed). f.refusal) e))
+    of_fed (Err BadRows) (Err BadRows) e = refl
+    of_fed (Err BadRows) (Err TraceLong) e = absurd (omega (arith, ap (λ (f : Fed). f.refusal) e))
+    of_fed (Err TraceLong) (Ok t) e = absurd (omega (arith, ap (λ (f : Fed). f.refusal) e))
+    of_fed (Err TraceLong) (Err BadRows) e = absurd (omega (arith, ap (λ (f : Fed). f.refusal) e))
+    of_fed (Err TraceLong) (Err TraceLong) e = refl
 
 -- a list of samples has one state
 pub only : {trace : List Sample} {a b : Trace} → Numbers trace a → Numbers trace b → a ≡ b

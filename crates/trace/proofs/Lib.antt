@@ -4,6 +4,5 @@ pub mod Going
 pub mod Joining
 pub mod Laws
 pub mod Leading
-pub mod Sampling
 pub mod Signed
 pub mod Truth

@@ -1,9 +1,13 @@
 -- What a part of a trace, two rows of counts, makes of any state, one that no trace has too.
-use Rattle.std.specs.Prelude.{◌≡◌, ℕ, suc, ◌+◌, ◌-◌, ◌%◌, ◌^◌, ◌<◌, ◌≤◌, cond, ◌≢◌, List, ◌∷◌, length, take, ◌==◌, slice_index_or}
+use Rattle.std.specs.Prelude.{◌≡◌, ℕ, suc, ◌+◌, ◌-◌, ◌%◌, ◌^◌, ◌<◌, ◌≤◌, cond, ◌≢◌, List, ◌∷◌, length, take, ◌==◌, slice_index_or, Result, Ok, Err}
 use Rattle.refusals.specs.Number.{BAD_ROWS, TRACE_LONG}
+use Rattle.refusals.specs.Refusal.{number_of}
+use Rattle.refusals.specs.declared.Refusal.{Refusal}
 use Rattle.trace.specs.declared.Channel.{Channel}
 use Rattle.trace.specs.declared.Fed.{Fed}
 use Rattle.trace.specs.declared.Trace.{Trace}
+use Rattle.trace.specs.declared.TraceError.{TraceError}
+use Rattle.trace.specs.declared.TraceError.TheVariants.{BadRows, TraceLong}
 use Rattle.trace.specs.Counts.{ticks, last_of}
 use Rattle.trace.specs.Leads.{Greatest}
 use Rattle.trace.specs.Numbers.{channel}
@@ -32,6 +36,15 @@ MOST = 16_777_216
 
 abbrev pub fed : ℕ → Trace → Fed
 fed refusal s = record { refusal = refusal; trace = s }
+
+abbrev pub refusal_of : TraceError → Refusal
+refusal_of BadRows = Refusal.BadRows
+refusal_of TraceLong = Refusal.TraceLong
+
+-- what a call came to, beside the state that it was given
+abbrev pub fed_of : Trace → Result Trace TraceError → Fed
+fed_of s (Ok r) = fed 0 r
+fed_of s (Err e) = fed (number_of (refusal_of e)) s
 
 -- A refusal gives the state back as it was.
 pub data Feeds (s : Trace) (xs ys : List ℕ) : Fed → Type 0 where

@@ -1,5 +1,5 @@
 -- One sample more: what the parts of the code promise each other.
-use Rattle.std.specs.Prelude.{◌≡◌, ℕ, ◌+◌, ◌-◌, ◌%◌, ◌^◌, ◌<◌, ◌≤◌, cond, List, length, ◌==◌, nat_lt}
+use Rattle.std.specs.Prelude.{◌≡◌, ℕ, ◌+◌, ◌-◌, ◌%◌, ◌^◌, ◌≤◌, cond, List, length, ◌==◌, nat_lt}
 use Rattle.trace.specs.declared.Channel.{Channel}
 use Rattle.trace.specs.declared.Lead.{Lead}
 use Rattle.trace.specs.declared.Trace.{Trace}
@@ -41,8 +41,7 @@ with_lasts s x y =
 abbrev pub begun : Trace → ℕ → ℕ → Trace
 begun s x y = cond (s.samples == 0) (with_lasts s x y) s
 
--- rows of one length, with a sample in them, that the trace has room for
+-- rows of one length that the trace has room for
 pub record Fits (s : Trace) (xs ys : List ℕ) : Type 0 where
   pub as_long : length xs ≡ length ys
-  pub some : 0 < length xs
   pub room : s.samples + length xs ≤ MOST

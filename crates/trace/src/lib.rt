@@ -3,17 +3,20 @@
 // in by value and comes back, so that a trace may be fed in parts of any length.
 #![tactic(auto)]
 
-ghost use Rattle.std.specs.Prelude.{◌≡◌, ◌-◌, ◌<◌, pos};
+ghost use Rattle.std.specs.Prelude.{◌≡◌, ◌<◌, pos};
 ghost use Rattle.trace.specs.Numbers.{nothing};
-ghost use Rattle.trace.specs.Parts.{MOST, Onward, Feeds};
+ghost use Rattle.trace.specs.Parts.{MOST, Onward, Feeds, refusal_of, fed_of};
 ghost use Rattle.trace.specs.Difference.{difference, capped};
 ghost use Rattle.trace.specs.Sampled.{counted, raised, sampled, begun, Fits};
 
-use std::num::{wrapping_add_u64, wrapping_sub_u16};
+use refusals::Refusal;
+
+// The most samples of a trace.
+const LONGEST: usize = 16777216;
 
 // A channel's ticks since the first sample, and its last count.
 #[repr(C)]
-#[derive(Clone, Copy)]
+#[derive(Clone, Copy, Default)]
 pub struct Channel {
     pub total: u64,
     pub last: u16,
@@ -21,12 +24,13 @@ pub struct Channel {
 
 // The most ticks that one channel was ahead of the other, and the first sample at which it was so many.
 #[repr(C)]
-#[derive(Clone, Copy)]
+#[derive(Clone, Copy, Default)]
 pub struct Lead {
     pub ticks: u64,
     pub at: u32,
 }
 
+// The header has the channels and the leads as members of these names, so that they are no arrays.
 #[repr(C)]
 #[derive(Clone, Copy)]
 pub struct Trace {
@@ -37,7 +41,40 @@ pub struct Trace {
     pub second_leads: Lead,
 }
 
-// 0 or a refusal, and the state for the next part.
+// With no samples every number is 0. No derive, since it would not say so by the name that the laws have for it.
+impl Default for Trace {
+    ghost is_default = { λ trace. trace ≡ nothing };
+
+    fn default() -> Trace {
+        Trace {
+            samples: 0,
+            first: Channel::default(),
+            second: Channel::default(),
+            first_leads: Lead::default(),
+            second_leads: Lead::default(),
+        }
+    }
+}
+
+// Why a part is refused: its rows differ in length, or the trace would be longer than can be.
+#[derive(Clone, Copy, PartialEq, Eq)]
+pub enum TraceError {
+    BadRows,
+    TraceLong,
+}
+
+impl From<TraceError> for Refusal {
+    ghost from_gives = { λ error refusal. refusal ≡ refusal_of error };
+
+    fn from(error: TraceError) -> Refusal {
+        match error {
+            TraceError::BadRows => Refusal::BadRows,
+            TraceError::TraceLong => Refusal::TraceLong,
+        }
+    }
+}
+
+// What a program in C is told: 0 or a refusal's number, and the state for the next part, which a refusal gives back as it was.
 #[repr(C)]
 #[derive(Clone, Copy)]
 pub struct Fed {
@@ -45,116 +82,116 @@ pub struct Fed {
     pub trace: Trace,
 }
 
-// With no samples every number is 0.
-pub fn nothing() -> Trace
-    ensures { result ≡ nothing }
-{
-    let first = Channel { total: 0, last: 0 };
-    let second = Channel { total: 0, last: 0 };
-    let first_leads = Lead { ticks: 0, at: 0 };
-    let second_leads = Lead { ticks: 0, at: 0 };
-    Trace {
-        samples: 0,
-        first,
-        second,
-        first_leads,
-        second_leads,
+impl Fed {
+    pub fn of(trace: Trace, fed: Result<Trace, TraceError>) -> Fed
+        ensures { result ≡ fed_of trace fed }
+    {
+        match fed {
+            Ok(next) => Fed {
+                refusal: 0,
+                trace: next,
+            },
+            Err(error) => Fed {
+                refusal: Refusal::from(error).number(),
+                trace,
+            },
+        }
     }
 }
 
-// A part of a trace: 18 where the rows differ in length, 19 where the trace would be longer than 16,777,216 samples.
-pub fn feed(trace: Trace, first: &[u16], second: &[u16]) -> Fed
-    ensures { Feeds trace first.now second.now result }
+// A part of a trace: the state for the next part.
+#[tactic(auto, using(crate::specs::Parts::bad_rows, crate::specs::Parts::trace_long, crate::specs::Parts::goes_on))]
+pub fn feed(trace: Trace, first: &[u16], second: &[u16]) -> Result<Trace, TraceError>
+    ensures { Feeds trace first.now second.now (fed_of trace result) }
 {
-    let n = first.len();
-    let samples = trace.samples as usize + n;
-    if n != second.len() {
-        return Fed { refusal: 18, trace };
+    if first.len() != second.len() {
+        return Err(TraceError::BadRows);
     }
-    if samples > 16777216 {
-        return Fed { refusal: 19, trace };
+    if trace.samples as usize + first.len() > LONGEST {
+        return Err(TraceError::TraceLong);
     }
-    if n == 0 {
-        return Fed { refusal: 0, trace };
+    Ok(trace.through(first, second))
+}
+
+impl Trace {
+    // Rows of one length, for which there is room.
+    fn through(self, first: &[u16], second: &[u16]) -> Trace
+        requires { Fits self first.now second.now }
+        ensures { Onward self first.now second.now result }
+    {
+        if first.is_empty() {
+            return self;
+        }
+        let mut state = self.begun(first[0], second[0]);
+        for (x, y) in first.iter().zip(second) {
+            state = state.sampled(*x, *y);
+        }
+        state
     }
-    Fed {
-        refusal: 0,
-        trace: through(trace, first, second),
+
+    // The first sample of all follows itself, so that it is no step.
+    fn begun(self, x: u16, y: u16) -> Trace
+        ensures { result ≡ begun self x y }
+    {
+        if self.samples != 0 {
+            return self;
+        }
+        Trace {
+            first: Channel {
+                last: x,
+                ..self.first
+            },
+            second: Channel {
+                last: y,
+                ..self.second
+            },
+            ..self
+        }
+    }
+
+    fn sampled(self, x: u16, y: u16) -> Trace
+        requires { self.samples < MOST }
+        ensures { result ≡ sampled self x y }
+    {
+        let first = self.first.counted(x);
+        let second = self.second.counted(y);
+        let ahead = first.total.saturating_sub(second.total);
+        let behind = second.total.saturating_sub(first.total);
+        Trace {
+            samples: self.samples + 1,
+            first,
+            second,
+            first_leads: self.first_leads.raised(ahead, self.samples),
+            second_leads: self.second_leads.raised(behind, self.samples),
+        }
     }
 }
 
-// The first sample of all follows itself, so that it is no step.
-fn begun(trace: Trace, x: u16, y: u16) -> Trace
-    ensures { result ≡ begun trace x y }
-{
-    if trace.samples != 0 {
-        return trace;
-    }
-    let mut ready = trace;
-    ready.first.last = x;
-    ready.second.last = y;
-    ready
-}
-
-// Rows with a sample in them, for which there is room.
-fn through(trace: Trace, first: &[u16], second: &[u16]) -> Trace
-    requires { Fits trace first.now second.now }
-    ensures { Onward trace first.now second.now result }
-{
-    let mut state = begun(trace, first[0], second[0]);
-    let mut i = 0;
-    while i < first.len() {
-        state = sampled(state, first[i], second[i]);
-        i += 1;
-    }
-    state
-}
-
-fn sampled(trace: Trace, x: u16, y: u16) -> Trace
-    requires { trace.samples < MOST }
-    ensures { result ≡ sampled trace x y }
-{
-    let at = trace.samples;
-    let first = counted(trace.first, x);
-    let second = counted(trace.second, y);
-    let first_leads = raised(trace.first_leads, ahead(first.total, second.total), at);
-    let second_leads = raised(trace.second_leads, ahead(second.total, first.total), at);
-    Trace {
-        samples: at + 1,
-        first,
-        second,
-        first_leads,
-        second_leads,
+impl Channel {
+    // The counter may have passed zero since its last count. A total wraps in states alone that no trace has.
+    #[tactic(auto, unfolding(crate::specs::Counts::step))]
+    fn counted(self, count: u16) -> Channel
+        ensures { result ≡ counted self count }
+    {
+        let step = count.wrapping_sub(self.last);
+        Channel {
+            total: self.total.wrapping_add(u64::from(step)),
+            last: count,
+        }
     }
 }
 
-// The counter may have passed zero since its last count. A total wraps in states alone that no trace has.
-fn counted(channel: Channel, count: u16) -> Channel
-    ensures { result ≡ counted channel count }
-{
-    let step = wrapping_sub_u16(count, channel.last);
-    Channel {
-        total: wrapping_add_u64(channel.total, step as u64),
-        last: count,
+impl Lead {
+    // A lead that is reached again keeps its first sample.
+    fn raised(self, ticks: u64, at: u32) -> Lead
+        ensures { result ≡ raised self ticks at }
+    {
+        if self.ticks < ticks {
+            Lead { ticks, at }
+        } else {
+            self
+        }
     }
-}
-
-// A lead that is reached again keeps its first sample.
-fn raised(lead: Lead, ticks: u64, at: u32) -> Lead
-    ensures { result ≡ raised lead ticks at }
-{
-    if lead.ticks < ticks {
-        Lead { ticks, at }
-    } else {
-        lead
-    }
-}
-
-// By how much a is ahead of b, if it is.
-fn ahead(a: u64, b: u64) -> u64
-    ensures { result ≡ a - b }
-{
-    if b < a { a - b } else { 0 }
 }
 
 // The first total less the second. Totals that are further apart than 63 bits, which no trace can make, give the last number that there is.
@@ -163,15 +200,11 @@ pub fn difference(trace: Trace) -> i64
 {
     let a = trace.first.total;
     let b = trace.second.total;
-    capped(ahead(a, b)) - capped(ahead(b, a))
+    capped(a.saturating_sub(b)) - capped(b.saturating_sub(a))
 }
 
 fn capped(ticks: u64) -> i64
     ensures { result ≡ pos (capped ticks) }
 {
-    if ticks < 9223372036854775808 {
-        ticks as i64
-    } else {
-        9223372036854775807
-    }
+    i64::try_from(ticks).unwrap_or(i64::MAX)
 }

@@ -7,9 +7,9 @@ use native.Mathlib.Nat.{le_trans, le_of_eq, le_antisymm, le_of_suc-le-suc, lt_of
 use native.Mathlib.Omega.{arith}
 use lib.Pow.{pow_pos, pow_mono, pow-add, shr-shr, shr_lt}
 use lib.Count.{count_leading_zeros, leading_top}
+use Rattle.std.specs.Prelude.{None, Some}
 use Rattle.refusals.specs.Told.{Told, answered}
 use Rattle.ttc.specs.Interval.{ticks, Least, setting, Right}
-use Rattle.ttc.specs.declared.PrescalerReg.TheVariants.{None, Value}
 use Rattle.ttc.specs.declared.Setting.{Setting}
 
 module _ (reference frequency : ℕ) where
@@ -62,17 +62,30 @@ top x long fits =
     (subst (λ (n : ℕ). x < 2 ^ n) (omega (arith, t.1)) t.3)
     (subst (λ (n : ℕ). 2 ^ n ≤ x) (omega (arith, t.1)) t.2)
 
-module _ (reference frequency : ℕ) (some : 0 < frequency) where
-  pub unscaled : reference / frequency ≤ 65535
-      → Right reference frequency (answered (record { prescaler_reg = None; interval_ticks = reference / frequency }))
+pub few_zeros : (x : ℕ) → 65535 < x → x < 2 ^ 32 → count_leading_zeros 32 x < 16
+few_zeros x long fits = let some = (top x long fits).some in omega arith
+
+-- what the code's quotient makes
+module _ (reference frequency : ℕ) {whole : ℕ} (some : 0 < frequency) (is_whole : whole ≡ reference / frequency) where
+  pub unscaled : whole ≤ 65535 → Right reference frequency (answered (record { prescaler_reg = None; interval_ticks = whole }))
   unscaled h =
-      let once : ticks reference frequency 0 ≡ reference / frequency = sym (halved reference frequency 0) ∙ div-one (reference / frequency) in
+      let once : ticks reference frequency 0 ≡ whole = sym (halved reference frequency 0) ∙ div-one (reference / frequency) ∙ sym is_whole in
       subst (λ (n : ℕ). Right reference frequency (answered (record { prescaler_reg = None; interval_ticks = n }))) once
       (Right.found 0 some (record { fits = rw once h; least = λ j l. absurd (not-suc-le-zero l) }) zero-le)
 
-  pub scaled : {k : ℕ} → Cut (reference / frequency) k
-      → Right reference frequency (answered (record { prescaler_reg = Value (k - 1); interval_ticks = reference / frequency / 2 ^ k }))
-  scaled {k = zero} c = absurd (lt_irrefl 0 c.some)
-  scaled {k = suc p} c =
-      subst₂ (λ (v n : ℕ). Right reference frequency (answered (record { prescaler_reg = Value v; interval_ticks = n }))) (omega arith) (sym (halved reference frequency (suc p)))
-      (Right.found (suc p) some (record { fits = rw (← (halved reference frequency (suc p))) c.fits; least = λ j l. rw (← (halved reference frequency j)) (c.least j l) }) c.at_most)
+  after : (k : ℕ) → whole / 2 ^ k ≡ ticks reference frequency k
+  after k = rw is_whole (halved reference frequency k)
+
+  cut_right : {k : ℕ} → Cut whole k → Right reference frequency (answered (record { prescaler_reg = Some (k - 1); interval_ticks = whole / 2 ^ k }))
+  cut_right {k = zero} c = absurd (lt_irrefl 0 c.some)
+  cut_right {k = suc p} c =
+      subst₂ (λ (v n : ℕ). Right reference frequency (answered (record { prescaler_reg = Some v; interval_ticks = n }))) (omega arith) (sym (after (suc p)))
+      (Right.found (suc p) some (record { fits = rw (← (after (suc p))) c.fits; least = λ j l. rw (← (after j)) (c.least j l) }) c.at_most)
+
+  pub scaled : 65535 < whole → whole < 2 ^ 32
+      → Right reference frequency
+      (answered (record {
+        prescaler_reg = Some (16 - count_leading_zeros 32 whole - 1);
+        interval_ticks = whole / 2 ^ (16 - count_leading_zeros 32 whole);
+      }))
+  scaled long fits = cut_right (top whole long fits)

@@ -7,18 +7,17 @@ use Prim.Native.Nat.{ℕ, zero, suc, ◌<◌}
 use native.Mathlib.Nat.{le_of_suc-le-suc, lt_of_lt_of_le, not-suc-le-zero}
 use lib.Dec.{T, leb, ltb, eqb, leb→le, ltb→lt, eqb→eq}
 use Rattle.tables.proofs.Table.{both}
+use Rattle.std.specs.Prelude.{Option, None, Some}
 use Rattle.refusals.specs.Told.{Told, answered, refused}
 use Rattle.refusals.specs.Number.{ZERO_TARGET}
 use Rattle.ttc.specs.Interval.{ticks, Least, prescaler, Right}
-use Rattle.ttc.specs.declared.PrescalerReg.{PrescalerReg}
-use Rattle.ttc.specs.declared.PrescalerReg.TheVariants.{None, Value}
 use Rattle.ttc.specs.declared.Setting.{Setting}
 use Rattle.ttc.proofs.Laws.{falls}
 
 -- the k that a prescaler stands for
-abbrev pub halvings : PrescalerReg → ℕ
+abbrev pub halvings : Option ℕ → ℕ
 halvings None = 0
-halvings (Value p) = suc p
+halvings (Some p) = suc p
 
 -- the ticks one halving earlier were too many; at 0 there is none earlier
 abbrev pub earlier : ℕ → ℕ → ℕ → Bool
@@ -35,9 +34,9 @@ test reference frequency (answered s) =
     let k = halvings s.prescaler_reg in
     ltb 0 frequency && (least reference frequency k && (leb k 16 && eqb (ticks reference frequency k) s.interval_ticks))
 
-prescaler_halvings : (p : PrescalerReg) → prescaler (halvings p) ≡ p
+prescaler_halvings : (p : Option ℕ) → prescaler (halvings p) ≡ p
 prescaler_halvings None = refl
-prescaler_halvings (Value p) = refl
+prescaler_halvings (Some p) = refl
 
 module _ (reference frequency : ℕ) where
   all_earlier : (k : ℕ) → T (earlier reference frequency k) → (j : ℕ) → j < k → 65535 < ticks reference frequency j

@@ -1,12 +1,12 @@
 -- The TTC's prescaler and interval ticks, in document 01's words. Every quotient is rounded down.
-use Rattle.std.specs.Prelude.{[], ℕ, zero, suc, ◌*◌, ◌/◌, ◌^◌, ◌≤◌, ◌<◌, ◌≡◌}
+use Rattle.std.specs.Prelude.{[], ℕ, zero, suc, ◌*◌, ◌/◌, ◌^◌, ◌≤◌, ◌<◌, ◌≡◌, Option, None, Some, Result, Ok, Err}
 use Rattle.refusals.specs.Told.{Told, answered, refused}
 use Rattle.refusals.specs.Number.{ZERO_TARGET}
-use Rattle.ttc.specs.declared.PrescalerReg.{PrescalerReg}
-use Rattle.ttc.specs.declared.PrescalerReg.TheVariants.{None, Value}
+use Rattle.refusals.specs.Refusal.{told as told_of}
+use Rattle.refusals.specs.declared.Refusal.{Refusal}
+use Rattle.refusals.specs.declared.Refusal.TheVariants as refusal
 use Rattle.ttc.specs.declared.Setting.{Setting}
-use Rattle.ttc.specs.declared.Interval.{Interval}
-use Rattle.ttc.specs.declared.Interval.TheVariants.{Found, ZeroTarget}
+use Rattle.ttc.specs.declared.ZeroTarget.{ZeroTarget}
 
 -- reference/(2^k freq)
 abbrev pub ticks : ℕ → ℕ → ℕ → ℕ
@@ -18,9 +18,9 @@ pub record Least (reference frequency k : ℕ) : Type 0 where
   pub least : (j : ℕ) → j < k → 65535 < ticks reference frequency j
 
 -- none for k = 0, else k-1
-abbrev pub prescaler : ℕ → PrescalerReg
+abbrev pub prescaler : ℕ → Option ℕ
 prescaler zero = None
-prescaler (suc p) = Value p
+prescaler (suc p) = Some p
 
 -- the prescaler for k, and that quotient
 abbrev pub setting : ℕ → ℕ → ℕ → Setting
@@ -31,7 +31,11 @@ pub data Right (reference frequency : ℕ) : Told Setting → Type 0 where
   zero_target : frequency ≡ 0 → Right reference frequency (refused ZERO_TARGET [])
   found : (k : ℕ) → 0 < frequency → Least reference frequency k → k ≤ 16 → Right reference frequency (answered (setting reference frequency k))
 
--- document 01's number and values for each case of the answer
-abbrev pub told : Interval → Told Setting
-told (Found s) = answered s
-told ZeroTarget = refused ZERO_TARGET []
+-- the refusal that the error is
+abbrev pub refusal_of : ZeroTarget → Refusal
+refusal_of e = refusal.ZeroTarget
+
+-- document 01's number and values for each case
+abbrev pub told : Result Setting ZeroTarget → Told Setting
+told (Ok s) = answered s
+told (Err e) = told_of (Err (refusal_of e))

@@ -1,5 +1,4 @@
 pub mod Row
-pub mod Search
 pub mod Test
 pub mod Top
 pub mod Unique

@@ -2,7 +2,7 @@
 -- second divisor of each row, its best, so that its cost goes by the number of rows.
 -- Assumes nothing.
 use Prim.Native.Nat.{ℕ, min, ◌+◌, ◌-◌, ◌*◌, ◌/◌, ◌≤◌, ◌<◌}
-use mathlib.Core.Path.{◌≡◌, refl}
+use mathlib.Core.Path.{◌≡◌, refl, subst}
 use mathlib.Core.Bool.{Bool, true, false, not, ◌&&◌}
 use native.Mathlib.Nat.{le_trans, mul-add, mul-one}
 use native.Mathlib.Omega.{arith}
@@ -12,9 +12,11 @@ use Rattle.refusals.specs.Told.{answered}
 use Rattle.nearness.specs.Distance.{distance, InRange}
 use Rattle.nearness.proofs.Upto.{upto, within}
 use Rattle.two_stage.specs.Best.{frequency, Best}
-use Rattle.two_stage.specs.Row.{Given, BestInRow}
 use Rattle.two_stage.specs.Answer.{Right, best}
-use Rattle.two_stage.proofs.Row.{smallest, greatest, ideal_wins, next_wins}
+use Rattle.nearness.specs.Found.{AtTurn}
+use Rattle.nearness.specs.declared.Wanted.{Wanted}
+use Rattle.nearness.proofs.Row.{smallest, greatest, ideal_wins, next_wins}
+use Rattle.two_stage.proofs.Row.{second_rule}
 
 abbrev pick : Bool → ℕ → ℕ → ℕ
 pick true a b = a
@@ -49,18 +51,28 @@ module _ (reference target largest : ℕ) where
 
   module _ (some_target : 0 < target) (some_largest : 0 < largest) where
     abbrev BestSecond : ℕ → ℕ → Type 0
-    BestSecond d0 d1 = BestInRow (frequency reference d0) target largest d1 (far d0 d1)
+    BestSecond d0 d1 = AtTurn (frequency reference d0) target largest d1 (far d0 d1)
 
     second_is_best : (d0 : ℕ) → 0 < d0 → BestSecond d0 (second d0)
     second_is_best d0 some =
-        pick_cases (BestSecond d0) (leb ideal 0) (λ t. at_distance (smallest given (omega (arith, leb→le ideal 0 t))))
-        (λ one. pick_cases (BestSecond d0) (leb largest ideal) (λ t. at_distance (greatest given (leb→le largest ideal t)))
+        pick_cases (BestSecond d0) (leb ideal 0) (λ t. at_distance (smallest wanted some (omega (arith, leb→le ideal 0 t))))
+        (λ one. pick_cases (BestSecond d0) (leb largest ideal) (λ t. at_distance (greatest wanted some (leb→le largest ideal t)))
         (λ room. pick_cases (BestSecond d0) (ltb under over)
-        (λ t. at_distance (next_wins given is_next (nleb→lt ideal 0 one) (nleb→lt largest ideal room) (ltb→lt under over t)))
-        (λ t. at_distance (ideal_wins given is_next (nleb→lt ideal 0 one) (nleb→lt largest ideal room) (nltb→le under over t)))))
+        (λ t. at_distance (next_wins wanted some is_next (nleb→lt ideal 0 one) (nleb→lt largest ideal room) (ltb→lt under over t)))
+        (λ t. at_distance (ideal_wins wanted some is_next (nleb→lt ideal 0 one) (nleb→lt largest ideal room) (nltb→le under over t)))))
       where
-        given : Given reference target largest (reference / target) d0
-        given = omega arith
+        wanted : Wanted
+        wanted = record {
+          reference = reference;
+          target = target;
+          firsts = largest;
+          seconds = largest;
+          ratio = reference / target;
+          some_target = some_target;
+          some_firsts = some_largest;
+          some_seconds = some_largest;
+          is_ratio = refl;
+        }
 
         ideal : ℕ
         ideal = reference / target / d0
@@ -74,8 +86,9 @@ module _ (reference target largest : ℕ) where
         is_next : frequency reference d0 (ideal + 1) ≡ reference / (d0 * ideal + d0)
         is_next = simp (mul-add, mul-one)
 
-        at_distance : {value : ℕ → ℕ} {d1 diff : ℕ} → BestInRow value target largest d1 diff → BestInRow value target largest d1 (distance (value d1) target)
-        at_distance row = record { nearest = row.nearest; second = row.second; is_diff = refl }
+        at_distance : {value : ℕ → ℕ} {d1 diff : ℕ} → AtTurn value target largest d1 diff
+            → AtTurn value target largest d1 (distance (value d1) target)
+        at_distance row = subst (AtTurn _ target largest _) row.is_diff row
 
     module _ {d0 d1 : ℕ} (range : InRange largest d0) (is_second : d1 ≡ second d0)
         (rows : (e0 : ℕ) → InRange largest e0 → far d0 d1 + min 1 (d0 - e0) ≤ far e0 (second e0)) where
@@ -95,7 +108,7 @@ module _ (reference target largest : ℕ) where
                   nothing_nearer = λ e0 e1 r0 r1. omega (arith, farther e0 e1 r0 r1);
                   smallest_first = λ e0 e1 r0 r1 same. omega (arith, farther e0 e1 r0 r1);
                 };
-            second = in_row.second;
+            second = second_rule in_row;
           }
 
   pub sound : {d0 d1 : ℕ} → T (best_test d0 d1) → Right reference target largest (answered (record { div0 = d0; div1 = d1 }))

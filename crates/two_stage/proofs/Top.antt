@@ -3,14 +3,25 @@
 use mathlib.Core.Path.{refl}
 use lib.Dec.{lit<, lit≤}
 use Rattle.refusals.specs.Told.{answered}
-use Rattle.two_stage.specs.Row.{Given}
 use Rattle.two_stage.specs.Answer.{Right, best}
-use Rattle.two_stage.proofs.Row.{greatest}
-use Rattle.two_stage.proofs.Search.{start, exact}
+use Rattle.nearness.specs.declared.Wanted.{Wanted}
+use Rattle.nearness.proofs.Row.{greatest}
+use Rattle.two_stage.proofs.Row.{best_pair}
+use Rattle.nearness.proofs.Search.{start, exact}
 
 -- the input at which the Rust's sum of the ideal divisor and 1 overflows
 pub at_the_top : Right 4_294_967_295 1 4_294_967_295 (answered (record { div0 = 1; div1 = 4_294_967_295 }))
-at_the_top = best _ (lit< tt) (lit< tt) (exact (start (lit< tt) (greatest given (lit≤ tt))) refl)
+at_the_top = best _ (lit< tt) (lit< tt) (best_pair (exact (start (lit< tt) refl (greatest wanted (lit< tt) (lit≤ tt))) refl))
   where
-    given : Given 4_294_967_295 1 4_294_967_295 4_294_967_295 1
-    given = record { some_target = lit< tt; some_largest = lit< tt; some_first = lit< tt; is_ratio = refl }
+    wanted : Wanted
+    wanted = record {
+      reference = 4_294_967_295;
+      target = 1;
+      firsts = 4_294_967_295;
+      seconds = 4_294_967_295;
+      ratio = 4_294_967_295;
+      some_target = lit< tt;
+      some_firsts = lit< tt;
+      some_seconds = lit< tt;
+      is_ratio = refl;
+    }

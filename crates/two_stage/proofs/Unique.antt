@@ -7,14 +7,15 @@ use native.Mathlib.Nat.{le_antisymm, lt_of_not-le, not-le_of_lt}
 use native.Mathlib.Omega.{arith}
 use mathlib.Core.Bool.{true, false}
 use lib.Dec.{eqb}
+use Rattle.std.specs.Prelude.{Result, Ok, Err}
 use Rattle.refusals.specs.Told.{Told, answered, refused}
 use Rattle.refusals.specs.Number.{ZERO_TARGET}
 use Rattle.nearness.specs.Distance.{distance, InRange}
 use Rattle.nearness.proofs.Distance.{le_or_lt}
 use Rattle.nearness.proofs.Rows.{one_distance, one_first}
 use Rattle.two_stage.specs.declared.DivisorPair.{DivisorPair}
-use Rattle.two_stage.specs.declared.TwoStage.{TwoStage}
-use Rattle.two_stage.specs.declared.TwoStage.TheVariants.{Found, ZeroTarget, BadMax}
+use Rattle.two_stage.specs.declared.TwoStageError.{TwoStageError}
+use Rattle.two_stage.specs.declared.TwoStageError.TheVariants.{ZeroTarget, BadMax}
 use Rattle.two_stage.specs.Best.{frequency, SecondRule, Best}
 use Rattle.two_stage.specs.Answer.{told, Right, no_target, no_largest, best}
 
@@ -57,16 +58,16 @@ module _ {reference target largest : ℕ} where
   unique (best _ _ l _) (no_largest _ z) = absurd (omega arith)
   unique (best p _ _ bp) (best q _ _ bq) = ap answered (same_pair bp bq)
 
--- back from what is told to the enum's case
-abbrev untold : Told DivisorPair → TwoStage
-untold (answered pair) = Found pair
-untold (refused n numbers) = elim (eqb n ZERO_TARGET) [ true ↦ ZeroTarget | false ↦ BadMax ]
+-- back from what is told to the answer or the error
+abbrev untold : Told DivisorPair → Result DivisorPair TwoStageError
+untold (answered pair) = Ok pair
+untold (refused n numbers) = elim (eqb n ZERO_TARGET) [ true ↦ Err ZeroTarget | false ↦ Err BadMax ]
 
-untold_told : (r : TwoStage) → untold (told r) ≡ r
-untold_told (Found pair) = refl
-untold_told ZeroTarget = refl
-untold_told BadMax = refl
+untold_told : (r : Result DivisorPair TwoStageError) → untold (told r) ≡ r
+untold_told (Ok pair) = refl
+untold_told (Err ZeroTarget) = refl
+untold_told (Err BadMax) = refl
 
-pub same_answer : {reference target largest : ℕ} {r s : TwoStage}
+pub same_answer : {reference target largest : ℕ} {r s : Result DivisorPair TwoStageError}
     → Right reference target largest (told r) → Right reference target largest (told s) → r ≡ s
 same_answer {r} {s} p q = sym (untold_told r) ∙ ap untold (unique p q) ∙ untold_told s

@@ -1,17 +1,23 @@
 -- Document 01's best pair: the least error, the first bdiv on a tie; or no pair.
-use Rattle.std.specs.Prelude.{[], ℕ, ◌≤◌, Float, T}
+use Rattle.std.specs.Prelude.{[], ℕ, ◌≤◌, Float, T, Result, Ok, Err}
 use Rattle.std.specs.Float.Ieee.{le, eq}
 use Rattle.float32.specs.Whole.{of_whole}
 use Rattle.refusals.specs.Told.{Told, answered, refused}
 use Rattle.refusals.specs.Number.{NO_PAIR}
+use Rattle.refusals.specs.Refusal.{told as told_of}
+use Rattle.refusals.specs.declared.Refusal.{Refusal}
+use Rattle.refusals.specs.declared.Refusal.TheVariants as refusal
 use Rattle.uart_candidate.specs.Candidate.{Candidate}
 use Rattle.uart_candidate.specs.declared.BaudDivisors.{BaudDivisors}
-use Rattle.uart_best.specs.declared.BestPair.{BestPair}
-use Rattle.uart_best.specs.declared.BestPair.TheVariants.{Found, NoPair}
+use Rattle.uart_best.specs.declared.NoPair.{NoPair}
 
-abbrev pub told : BestPair → Told BaudDivisors
-told (Found p) = answered p
-told NoPair = refused NO_PAIR []
+-- the refusal that the error is
+abbrev pub refusal_of : NoPair → Refusal
+refusal_of e = refusal.NoPair
+
+abbrev pub told : Result BaudDivisors NoPair → Told BaudDivisors
+told (Ok p) = answered p
+told (Err e) = told_of (Err (refusal_of e))
 
 pub record Best (reference target : Float) (p : BaudDivisors) : Type 0 where
   pub candidate : Candidate reference target p

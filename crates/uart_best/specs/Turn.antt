@@ -1,11 +1,9 @@
--- What one turn of the search promises the loop. What the search promises its callers is `Best.antt`.
-use Rattle.std.specs.Prelude.{cond}
-use Rattle.std.specs.Float.Ieee.{lt}
+-- What the search begins with. What it promises its callers is `Best.antt`.
+use Rattle.std.specs.Prelude.{◌≤◌, Float, Option, Some, None}
+use Rattle.uart_candidate.specs.Candidate.{Candidate}
 use Rattle.uart_candidate.specs.declared.BaudDivisors.{BaudDivisors}
-use Rattle.uart_candidate.specs.declared.Tried.{Tried}
-use Rattle.uart_candidate.specs.declared.Tried.TheVariants.{Pair, Skipped}
 
--- what was tried displaces the best so far where its error is less
-abbrev pub better_of : BaudDivisors → Tried → BaudDivisors
-better_of p (Pair q) = cond (lt q.error p.error) q p
-better_of p Skipped = p
+-- the candidate with the least bdiv, or that there is none
+pub data First (reference target : Float) : Option BaudDivisors → Type 0 where
+  found : {p : BaudDivisors} → Candidate reference target p → ((q : BaudDivisors) → Candidate reference target q → p.bdiv ≤ q.bdiv) → First reference target (Some p)
+  nowhere : ((q : BaudDivisors) → Candidate reference target q → ⊥) → First reference target None

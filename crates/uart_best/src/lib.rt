@@ -2,48 +2,49 @@
 #![tactic(auto)]
 
 ghost use Rattle.std.specs.Prelude.{◌≡◌};
-ghost use Rattle.uart_best.specs.Best.{Right, told};
-ghost use Rattle.uart_best.specs.Turn.{better_of};
+ghost use Rattle.uart_best.specs.Best.{Right, told, refusal_of};
+ghost use Rattle.uart_best.specs.Turn.{First};
 
-use uart_candidate::{BaudDivisors, Tried};
+use refusals::Refusal;
+use uart_candidate::{BaudDivisors, FIRST, LAST, Wanted};
 
-#[derive(Clone, Copy)]
-pub enum BestPair {
-    Found(BaudDivisors),
-    NoPair,
-}
+// No baud divider has a candidate.
+#[derive(Clone, Copy, PartialEq, Eq)]
+pub struct NoPair;
 
-// Only a lesser error displaces: on a tie the first bdiv stays.
-fn better(best: BaudDivisors, tried: Tried) -> BaudDivisors
-    ensures { result ≡ better_of best tried }
-{
-    match tried {
-        Tried::Pair(p) => { if p.error < best.error { p } else { best } }
-        Tried::Skipped => best,
+impl From<NoPair> for Refusal {
+    ghost from_gives = { λ e r. r ≡ refusal_of e };
+
+    fn from(_e: NoPair) -> Refusal {
+        Refusal::NoPair
     }
 }
 
-// The pair with the least error. No candidate has a clock divisor of 0, and none an error as large as the first one here: so a 0 at the end says that
-// there was none.
-pub fn best_baud_divisors(reference: u32, target: u32) -> BestPair
+// The candidate with the least bdiv.
+// A loop and no `find_map`: it is no plainer, since that a closure found the least has to be shown again.
+fn first(wanted: Wanted) -> Option<BaudDivisors>
+    ensures { First wanted.reference wanted.target result }
+{
+    for bdiv in FIRST..=LAST {
+        if let Some(pair) = wanted.candidate(bdiv) {
+            return Some(pair);
+        }
+    }
+    None
+}
+
+// The pair with the least error. Only a lesser error displaces: on a tie the first bdiv stays.
+pub fn best_baud_divisors(reference: u32, target: u32) -> Result<BaudDivisors, NoPair>
     ensures { Right reference target (told result) }
 {
-    let reference_f32 = float32::of_whole(reference);
-    let target_f32 = float32::of_whole(target);
-    let mut best = BaudDivisors {
-        cd: 0,
-        bdiv: 0,
-        error: 3.4028235e38,
-    };
-    for bdiv in uart_candidate::FIRST..=uart_candidate::LAST {
-        best = better(
-            best,
-            uart_candidate::candidate_at(reference_f32, target_f32, bdiv),
-        );
+    let wanted = Wanted::new(reference, target);
+    let mut best = first(wanted).ok_or(NoPair)?;
+    for bdiv in best.bdiv as u32 + 1..=LAST {
+        if let Some(tried) = wanted.candidate(bdiv) {
+            if tried.error < best.error {
+                best = tried;
+            }
+        }
     }
-    if best.cd == 0 {
-        BestPair::NoPair
-    } else {
-        BestPair::Found(best)
-    }
+    Ok(best)
 }

@@ -1,12 +1,15 @@
 -- Document 01's UART candidates. `reference` and `target` are f32 already, by nearest; each operation rounds once more.
-use Rattle.std.specs.Prelude.{◌≡◌, ℕ, ◌+◌, ◌≤◌, Float, T}
+use Rattle.std.specs.Prelude.{◌≡◌, ℕ, ◌+◌, ◌≤◌, Float, T, Option, Some, None}
 use Rattle.std.specs.Float.{binary32}
 use Rattle.std.specs.Float.Ieee.{of_bits, mul, div, sub, lt}
 use Rattle.float32.specs.Whole.{of_whole, to_whole, abs}
 use Rattle.uart_candidate.specs.Range.{InRange}
 use Rattle.uart_candidate.specs.declared.BaudDivisors.{BaudDivisors}
-use Rattle.uart_candidate.specs.declared.Tried.{Tried}
-use Rattle.uart_candidate.specs.declared.Tried.TheVariants.{Pair, Skipped}
+use Rattle.uart_candidate.specs.declared.Wanted.{Wanted}
+
+-- both numbers as f32
+abbrev pub wanted : (reference target : ℕ) → Wanted
+wanted reference target = record { reference = of_whole reference; target = of_whole target }
 
 -- the reference over (bdiv + 1) times target; then to a whole number, halves away from zero
 abbrev pub clock_divisor : (reference target : Float) → ℕ → ℕ
@@ -37,6 +40,6 @@ pub record Viable (reference target : Float) (p : BaudDivisors) : Type 0 where
   pub small : T (lt p.error MAX_BAUDERROR_RATE)
 
 -- what comes of one bdiv, by a rule on pairs: the pair that has it, or that none has
-pub data Outcome (Rule : BaudDivisors → Type 0) (bdiv : ℕ) : Tried → Type 0 where
-  pair : {p : BaudDivisors} → Rule p → p.bdiv ≡ bdiv → Outcome Rule bdiv (Pair p)
-  skipped : ((p : BaudDivisors) → Rule p → p.bdiv ≡ bdiv → ⊥) → Outcome Rule bdiv Skipped
+pub data Outcome (Rule : BaudDivisors → Type 0) (bdiv : ℕ) : Option BaudDivisors → Type 0 where
+  pair : {p : BaudDivisors} → Rule p → p.bdiv ≡ bdiv → Outcome Rule bdiv (Some p)
+  skipped : ((p : BaudDivisors) → Rule p → p.bdiv ≡ bdiv → ⊥) → Outcome Rule bdiv None

@@ -1,108 +1,89 @@
 -- How the lent records fill: what is written after i turns, and what stands there at the end.
-use mathlib.Core.Path.{◌≡◌, refl, sym, ◌∙◌, ap, subst, subst₂}
-use mathlib.Core.Logic.{◌⊎◌, inl, inr}
-use mathlib.Core.Bool.{true, not}
+use mathlib.Core.Path.{◌≡◌, refl, ◌∙◌, ap}
 use mathlib.Core.List.{List, [], ◌∷◌, ◌++◌}
 use Prim.Native.Nat.{ℕ, zero, suc, ◌+◌, ◌<◌, ◌≤◌, zero-le}
 use native.Mathlib.Nat.{le_of_suc-le-suc, not-suc-le-zero}
 use native.Mathlib.Numerals.{add-one}
 use native.Mathlib.Omega.{arith}
-use lib.ListN.{length, get_or, take, drop, set, length-append, length-take, length-drop}
+use lib.Ieee.{Float}
+use lib.ListN.{length, take, drop, set, length-drop}
 use lib.Seq.{take-length}
-use borrow.Author.Tests.{ne_eqb}
-use lib.Dec.{eqb}
 use Rattle.refusals.specs.Told.{Told, answered, refused}
 use Rattle.refusals.specs.Number.{NO_ROOM}
-use Rattle.float32.specs.Whole.{of_whole}
 use Rattle.uart_candidate.specs.Range.{FIRST, LAST, COUNT}
-use Rattle.uart_candidate.specs.Candidate.{Viable}
+use Rattle.std.specs.Prelude.{Some, None, Ok}
+use Rattle.uart_candidate.specs.Candidate.{Viable, Outcome, pair, skipped}
 use Rattle.uart_candidate.specs.declared.BaudDivisors.{BaudDivisors}
 use Rattle.uart_list.specs.Listing.{Viables, Right, listed, no_room}
-use Rattle.uart_list.specs.Turns.{none, Excess, Start}
-use Rattle.uart_list.proofs.Laws.{From, few, all, beyond, taken, passed, done, only}
+use Rattle.uart_list.specs.Room.{Roomy, enough}
+use Rattle.uart_list.proofs.Laws.{From, few as few_pairs, all, taken, passed, done, only}
 
 -- the first i pairs of ws over ys
-abbrev pub over : List BaudDivisors → ℕ → List BaudDivisors → List BaudDivisors
+abbrev over : List BaudDivisors → ℕ → List BaudDivisors → List BaudDivisors
 over ws i ys = take i ws ++ drop i ys
 
-pub over_length : (ws ys : List BaudDivisors) (i : ℕ) → i ≤ length ws → length ws ≤ length ys → length (over ws i ys) ≡ length ys
-over_length ws ys i h g = simp (length-append, length-take, length-drop) (omega arith)
-
-over_suc : (ws ys : List BaudDivisors) (i : ℕ) → i < length ws → length ws ≤ length ys → set (over ws i ys) i (get_or ws i none) ≡ over ws (suc i) ys
-over_suc [] ys i h g = absurd (not-suc-le-zero h)
-over_suc (w ∷ ws) [] i h g = absurd (not-suc-le-zero g)
-over_suc (w ∷ ws) (y ∷ ys) zero h g = refl
-over_suc (w ∷ ws) (y ∷ ys) (suc i) h g = ap (λ (l : List BaudDivisors). w ∷ l) (over_suc ws ys i (le_of_suc-le-suc h) (le_of_suc-le-suc g))
-
-pub over_more : (ws ys : List BaudDivisors) (i : ℕ) → i < length ws → length ws ≤ length ys → set (over ws i ys) i (get_or ws i none) ≡ over ws (i + 1) ys
-over_more ws ys i h g = over_suc ws ys i h g ∙ ap (λ (k : ℕ). over ws k ys) (sym (add-one i))
-
--- ---- What is to be written, and what is to be told. A list that is refused leaves nothing to write.
-pub record Plan (reference target : ℕ) (ys : List BaudDivisors) (excess : ℕ) (ws : List BaudDivisors) : Type 0 where
-  pub room : length ws ≤ length ys
-  pub few : (length ws ≤ COUNT) × (excess ≤ COUNT)
-  pub right : ((excess ≡ 0) × Right reference target ys (answered (length ws)) (over ws (length ws) ys))
-      ⊎ ((excess ≡ 0 → ⊥) × Right reference target ys (refused NO_ROOM (excess ∷ [])) (over ws (length ws) ys))
-
--- before the turn at k the first i pairs are those below k
-pub record Reached (reference target : ℕ) (ws : List BaudDivisors) (k i : ℕ) : Type 0 where
+-- Before the turn at k the first n pairs of the list are written over ys, and they are those below k.
+pub record Filling (reference target : Float) (ys xs : List BaudDivisors) (k n : ℕ) : Type 0 where
+  pub list : List BaudDivisors
+  pub viables : Viables reference target list
+  pub room : length list ≤ length ys
   pub to : k ≤ LAST + 1
-  pub within : i ≤ length ws
-  pub ahead : From (of_whole reference) (of_whole target) k (drop i ws)
+  pub within : n ≤ length list
+  pub ahead : From reference target k (drop n list)
+  pub written : xs ≡ over list n ys
 
-at_drop : (ws : List BaudDivisors) (i : ℕ) {p : BaudDivisors} {qs : List BaudDivisors} → drop i ws ≡ p ∷ qs → (i < length ws) × (get_or ws i none ≡ p) × (drop (suc i) ws ≡ qs)
-at_drop [] zero e = absurd (let z : ◌≡◌ {A = ℕ} 0 1 = cc in omega arith)
-at_drop [] (suc i) e = absurd (let z : ◌≡◌ {A = ℕ} 0 1 = cc in omega arith)
-at_drop (w ∷ ws) zero e = (omega arith, cc, cc)
-at_drop (w ∷ ws) (suc i) e = let r = at_drop ws i e in (omega arith, r.1, r.2)
+-- the next pair of ws, written behind those before it
+record Next (ws ys : List BaudDivisors) (i : ℕ) (p : BaudDivisors) (qs : List BaudDivisors) : Type 0 where
+  less : i < length ws
+  after : set (over ws i ys) i p ≡ over ws (suc i) ys
+  left : drop (suc i) ws ≡ qs
 
-module _ {reference target : ℕ} {ws : List BaudDivisors} {k i : ℕ} (h : Reached reference target ws k i) where
-  pub passes : k ≤ LAST → ((p : BaudDivisors) → Viable (of_whole reference) (of_whole target) p → p.bdiv ≡ k → ⊥) → Reached reference target ws (k + 1) i
-  passes l free = record { to = omega arith; within = h.within; ahead = passed _ _ (drop i ws) h.ahead free }
+one_more : (ws ys : List BaudDivisors) (i : ℕ) {p : BaudDivisors} {qs : List BaudDivisors} → length ws ≤ length ys → drop i ws ≡ p ∷ qs → Next ws ys i p qs
+one_more [] ys zero g e = absurd cc
+one_more [] ys (suc i) g e = absurd cc
+one_more (w ∷ ws) [] i g e = absurd (not-suc-le-zero g)
+one_more (w ∷ ws) (y ∷ ys) zero g e = record { less = omega arith; after = cc; left = cc }
+one_more (w ∷ ws) (y ∷ ys) (suc i) g e =
+    let n = one_more ws ys i (le_of_suc-le-suc g) e in
+    record { less = omega (arith, n.less); after = ap (λ (l : List BaudDivisors). w ∷ l) n.after; left = n.left }
 
-  pub record Written (p : BaudDivisors) : Type 0 where
-    pub less : i < length ws
-    pub is : get_or ws i none ≡ p
-    pub then : Reached reference target ws (k + 1) (i + 1)
+module _ {reference target : Float} {ys : List BaudDivisors} where
+  pub begun : Roomy reference target (length ys) (Ok tt) → Filling reference target ys ys FIRST 0
+  begun (enough ps v l) = record { list = ps; viables = v; room = l; to = omega arith; within = zero-le; ahead = all _ _ v; written = refl }
 
-  pub writes : {p : BaudDivisors} → k ≤ LAST → Viable (of_whole reference) (of_whole target) p → p.bdiv ≡ k → Written p
-  writes {p} l v e =
-      let t = taken _ _ (drop i ws) h.ahead v e in
-      let d = at_drop ws i t.1 in
-      record { less = d.0; is = d.1; then = record { to = omega arith; within = omega (arith, d.0); ahead = rw (add-one i, d.2) t.2 } }
+  module _ {xs : List BaudDivisors} {k n : ℕ} (h : Filling reference target ys xs k n) (l : k ≤ LAST) where
+    pub passes : Outcome (Viable reference target) k None → Filling reference target ys xs (k + 1) n
+    passes (skipped free) =
+        record { list = h.list; viables = h.viables; room = h.room; to = omega arith; within = h.within; ahead = passed _ _ (drop n h.list) h.ahead free; written = h.written }
 
-  pub finished : LAST < k → i ≡ length ws
-  finished l = omega (arith, h.within, length-drop i ws, ap length (done _ _ (drop i ws) h.ahead l))
+    pub record Written (p : BaudDivisors) : Type 0 where
+      pub place : n < length ys
+      pub few : n < COUNT
+      pub then : Filling reference target ys (set xs n p) (k + 1) (n + 1)
 
--- ---- where the list begins
-module _ (reference target : ℕ) (ys : List BaudDivisors) where
-  abbrev Chosen : ℕ → ℕ → Type 0
-  Chosen n k = (ws : List BaudDivisors) × Plan reference target ys n ws × Reached reference target ws k 0
+    pub writes : {p : BaudDivisors} → Outcome (Viable reference target) k (Some p) → Written p
+    writes {p} (pair v e) =
+        let t = taken _ _ (drop n h.list) h.ahead v e in
+        let d = one_more h.list ys n h.room t.1 in
+        record {
+          place = omega (arith, d.less, h.room);
+          few = omega (arith, d.less, few_pairs _ _ h.viables);
+          then = record {
+            list = h.list;
+            viables = h.viables;
+            room = h.room;
+            to = omega arith;
+            within = omega (arith, d.less);
+            ahead = rw (add-one n, d.left) t.2;
+            written = rw (h.written, add-one n) d.after;
+          };
+        }
 
-  fitting : (ps : List BaudDivisors) → Viables (of_whole reference) (of_whole target) ps → length ps ≤ length ys → Chosen 0 FIRST
-  fitting ps v l = (
-    ps,
-    record { room = l; few = (few _ _ v, zero-le); right = inl (refl, rw (take-length ps) (listed ps v l)) },
-    record { to = omega arith; within = zero-le; ahead = all _ _ v },
-  )
-
-  refusing : (n : ℕ) (ps : List BaudDivisors) → Viables (of_whole reference) (of_whole target) ps → length ys < length ps → n ≡ length ps → Chosen n (LAST + 1)
-  refusing n ps v l e = (
-    [],
-    record { room = zero-le; few = (zero-le, omega (arith, few _ _ v)); right = inr (λ (z : n ≡ 0). omega arith, rw e (no_room ps v l)) },
-    record { to = omega arith; within = zero-le; ahead = beyond _ _ (omega arith) },
-  )
-
-  pub chosen : (n k : ℕ) → Excess (of_whole reference) (of_whole target) (length ys) n → Start n k → Chosen n k
-  chosen n k x o = go x.over
-    where
-      go : ((length x.list ≤ length ys) × (n ≡ 0)) ⊎ ((length ys < length x.list) × (n ≡ length x.list)) → Chosen n k
-      go (inl h) = subst₂ Chosen (sym h.1) (sym (o.free h.1)) (fitting x.list x.viables h.0)
-      go (inr h) = subst (Chosen n) (sym (o.shut (λ (z : n ≡ 0). omega arith))) (refusing n x.list x.viables h.0 h.1)
-
--- ---- the test of a record: a pair's clock divisor is not 0, and that of the record for none is
-pub some_cd : {a : ℕ} → 1 ≤ a → not (eqb a 0) ≡ true
-some_cd {a} h = ap not (ne_eqb a 0 (λ (z : a ≡ 0). omega arith))
+  -- after the last turn the list is written
+  pub finished : {xs : List BaudDivisors} {k n : ℕ} → LAST < k → (h : Filling reference target ys xs k n) → (n ≡ length h.list) × (xs ≡ h.list ++ drop (length h.list) ys)
+  finished {n} l h =
+      let e : n ≡ length h.list = omega (arith, h.within, length-drop n h.list, ap length (done _ _ (drop n h.list) h.ahead l)) in
+      (e, h.written ∙ ap (λ (i : ℕ). over h.list i ys) e ∙ ap (λ (ps : List BaudDivisors). ps ++ drop (length h.list) ys) (take-length h.list))
 
 -- ---- one answer to each question, and one content of the lent records
 pub unique : {reference target : ℕ} {lent xs zs : List BaudDivisors} {a b : Told ℕ} → Right reference target lent a xs → Right reference target lent b zs → (a ≡ b) × (xs ≡ zs)

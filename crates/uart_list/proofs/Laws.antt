@@ -8,14 +8,15 @@ use native.Mathlib.Nat.{le_trans, le_of_eq, eq-or-lt_of_le, zero-add, add-zero}
 use native.Mathlib.Omega.{arith}
 use lib.Ieee.{Float}
 use lib.ListN.{length}
+use mathlib.Core.Bool.{true, false}
+use Rattle.std.specs.Prelude.{Option, Some, None, is_some, Ok, Err}
 use Rattle.uart_candidate.specs.Range.{FIRST, LAST, COUNT}
 use Rattle.uart_candidate.specs.Candidate.{Viable, Outcome, pair, skipped}
 use Rattle.uart_candidate.specs.declared.BaudDivisors.{BaudDivisors}
-use Rattle.uart_candidate.specs.declared.Tried.{Tried}
-use Rattle.uart_candidate.specs.declared.Tried.TheVariants.{Pair, Skipped}
 use Rattle.uart_candidate.proofs.Pairs.{one_each, decided}
 use Rattle.uart_list.specs.Listing.{Rising, end, next, Viables, Counts}
-use Rattle.uart_list.specs.Turns.{ones, Excess}
+use Rattle.uart_list.specs.Room.{Roomy, too_few}
+use Rattle.uart_list.specs.Room as Room
 
 -- the viable pairs whose bdiv is k or more
 pub record From (reference target : Float) (k : ℕ) (ps : List BaudDivisors) : Type 0 where
@@ -51,21 +52,13 @@ pub record Tally (reference target : Float) (n k : ℕ) : Type 0 where
   pub full : (ps : List BaudDivisors) → From reference target k ps → (qs : List BaudDivisors) × From reference target FIRST qs × (length qs ≡ n + length ps)
 
 -- ---- how a list grows towards its front
-abbrev pub put : Tried → List BaudDivisors → List BaudDivisors
-put (Pair p) ps = p ∷ ps
-put Skipped ps = ps
+abbrev pub put : Option BaudDivisors → List BaudDivisors → List BaudDivisors
+put (Some p) ps = p ∷ ps
+put None ps = ps
 
-sum : (n m : ℕ) (ps : List BaudDivisors) (t : Tried) → m ≡ ones t → n + length (put t ps) ≡ n + m + length ps
-sum n m ps Skipped e = omega arith
-sum n m ps (Pair p) e = omega arith
-
-longer : (t : Tried) (ps : List BaudDivisors) (n : ℕ) → length ps ≤ n → length (put t ps) ≤ suc n
-longer Skipped ps n h = omega arith
-longer (Pair p) ps n h = omega arith
-
-pub at_most_one : {m : ℕ} (t : Tried) → m ≡ ones t → m ≤ 1
-at_most_one Skipped e = omega arith
-at_most_one (Pair p) e = omega arith
+longer : (t : Option BaudDivisors) (ps : List BaudDivisors) (n : ℕ) → length ps ≤ n → length (put t ps) ≤ suc n
+longer None ps n h = omega arith
+longer (Some p) ps n h = omega arith
 
 module _ (reference target : Float) where
   abbrev Fit : BaudDivisors → Type 0
@@ -81,7 +74,7 @@ module _ (reference target : Float) where
     rising = end;
   }
 
-  pub before : {k : ℕ} {ps : List BaudDivisors} {t : Tried} → Outcome Fit k t → F (k + 1) ps → F k (put t ps)
+  pub before : {k : ℕ} {ps : List BaudDivisors} {t : Option BaudDivisors} → Outcome Fit k t → F (k + 1) ps → F k (put t ps)
   before {k} {ps} (skipped free) f = record {
     sound = f.sound;
     complete = λ p v h. f.complete p v (above p.bdiv k (free p v) h);
@@ -165,8 +158,13 @@ module _ (reference target : Float) where
   pub begun : Tally reference target 0 FIRST
   begun = record { full = λ ps f. (ps, f, sym (zero-add (length ps))) }
 
-  pub counted : {n k m : ℕ} {t : Tried} → Outcome Fit k t → m ≡ ones t → Tally reference target n k → Tally reference target (n + m) (k + 1)
-  counted {n} {k} {m} {t} o e c = record { full = λ ps f. let r = c.full (put t ps) (before o f) in (r.0, r.1, r.2 ∙ sum n m ps t e) }
+  pub one_more : {n k : ℕ} {t : Option BaudDivisors} → is_some t ≡ true → Outcome Fit k t → Tally reference target n k → Tally reference target (n + 1) (k + 1)
+  one_more {t = Some p} e o c = record { full = λ ps f. let r = c.full (p ∷ ps) (before o f) in (r.0, r.1, omega (arith, r.2)) }
+  one_more {t = None} e o c = cc
+
+  pub no_more : {n k : ℕ} {t : Option BaudDivisors} → is_some t ≡ false → Outcome Fit k t → Tally reference target n k → Tally reference target n (k + 1)
+  no_more {t = Some p} e o c = cc
+  no_more {t = None} e o c = record { full = λ ps f. c.full ps (before o f) }
 
   pub total : {n k : ℕ} → LAST < k → Tally reference target n k → Counts reference target n
   total {n} l c = let r = c.full [] (beyond l) in record { list = r.0; viables = whole r.1; many = sym (r.2 ∙ add-zero n) }
@@ -182,14 +180,17 @@ module _ (reference target : Float) where
   pub few : {ps : List BaudDivisors} → Viables reference target ps → length ps ≤ COUNT
   few {ps} v = let r = listed COUNT FIRST refl in subst (λ (x : List BaudDivisors). length x ≤ COUNT) (only r.0 ps r.1 (all v)) r.2
 
-  pub enough : {lent : ℕ} → COUNT ≤ lent → Excess reference target lent 0
-  enough l = let r = listed COUNT FIRST refl in record { list = r.0; viables = whole r.1; over = inl (le_trans r.2 l, refl) }
+  -- ---- whether it fits
+  pub always : {lent : ℕ} → COUNT ≤ lent → Roomy reference target lent (Ok tt)
+  always l = let r = listed COUNT FIRST refl in Room.enough r.0 (whole r.1) (le_trans r.2 l)
 
-  pub fits : {lent n : ℕ} → n ≤ lent → Counts reference target n → Excess reference target lent 0
-  fits {lent} l c = record { list = c.list; viables = c.viables; over = inl (subst (λ (x : ℕ). x ≤ lent) c.many l, refl) }
+  pub fits : {lent n : ℕ} → n ≤ lent → Counts reference target n → Roomy reference target lent (Ok tt)
+  fits {lent} l c = Room.enough c.list c.viables (subst (λ (x : ℕ). x ≤ lent) c.many l)
 
-  pub exceeds : {lent n : ℕ} → lent < n → Counts reference target n → Excess reference target lent n
-  exceeds {lent} l c = record { list = c.list; viables = c.viables; over = inr (subst (λ (x : ℕ). lent < x) c.many l, c.many) }
+  pub exceeds : {lent n : ℕ} → lent < n → Counts reference target n → Roomy reference target lent (Err record { needed = n })
+  exceeds {lent} l c = rw c.many (too_few c.list c.viables (subst (λ (x : ℕ). lent < x) c.many l))
+
+  pub ruleset roomy = (always, exceeds)
 
   pub one_count : {n m : ℕ} → Counts reference target n → Counts reference target m → n ≡ m
   one_count c d = c.many ∙ ap length (only c.list d.list (all c.viables) (all d.viables)) ∙ sym d.many

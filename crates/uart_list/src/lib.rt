@@ -1,70 +1,55 @@
-// The viable pairs of a UART clock divisor and baud divider: how many there are, and the steps of listing them in lent records.
+// The viable pairs of a UART clock divisor and baud divider: how many there are, and whether lent records are enough for a list of them.
 // The call that writes them is the archive's `ogr_uart_list`: only through it can a program lend records.
 #![tactic(auto)]
 
 ghost use Rattle.std.specs.Prelude.{◌≡◌};
-ghost use Rattle.float32.specs.Whole.{of_whole};
 ghost use Rattle.uart_list.specs.Listing.{Counts};
-ghost use Rattle.uart_list.specs.Turns.{ones, Slot, Excess, Start};
+ghost use Rattle.uart_list.specs.Room.{refusal_of, Roomy};
 
-use uart_candidate::{BaudDivisors, Tried};
+use refusals::Refusal;
+use uart_candidate::{COUNT, FIRST, LAST, Wanted};
 
-fn one_of(tried: Tried) -> usize
-    ensures { result ≡ ones tried }
-{
-    match tried {
-        Tried::Pair(_) => 1,
-        Tried::Skipped => 0,
+// The viable pairs outnumber the records: how many there are.
+// Records are short here, and the three rows of a run in pll_seq: one error for both would say neither.
+#[derive(Clone, Copy, PartialEq, Eq)]
+pub struct NoRoom {
+    pub needed: usize,
+}
+
+// What a refusal carries has 32 bits.
+impl From<NoRoom> for Refusal {
+    ghost from_gives = { λ e r. r ≡ refusal_of e };
+
+    fn from(e: NoRoom) -> Refusal {
+        Refusal::NoRoom((e.needed % 0x1_0000_0000) as u32)
     }
 }
 
-// How many viable pairs there are.
-pub fn viable_count(reference: u32, target: u32) -> usize
-    ensures { Counts (of_whole reference) (of_whole target) result }
+// How many viable pairs there are. The clauses of a chain of `filter` and `count` speak of a test that is a function of its item; `viable`
+// promises its outcome by a relation, which the loop's invariant takes as it is: the chain is no plainer.
+pub fn viable_count(wanted: Wanted) -> usize
+    ensures { Counts wanted.reference wanted.target result }
 {
-    let reference_f32 = float32::of_whole(reference);
-    let target_f32 = float32::of_whole(target);
-    let mut count: usize = 0;
-    for bdiv in uart_candidate::FIRST..=uart_candidate::LAST {
-        count += one_of(uart_candidate::viable_at(reference_f32, target_f32, bdiv));
+    let mut count = 0;
+    for bdiv in FIRST..=LAST {
+        if wanted.viable(bdiv).is_some() {
+            count += 1;
+        }
     }
     count
 }
 
-// How many there are where `lent` records are too few, else 0. The count is taken only where the records could be too few.
-#[tactic(auto, using(crate::proofs::Laws::enough, crate::proofs::Laws::fits, crate::proofs::Laws::exceeds))]
-pub fn excess(reference: u32, target: u32, lent: usize) -> usize
-    ensures { Excess (of_whole reference) (of_whole target) lent result }
+// Whether `lent` records are enough. The pairs are counted only where the records could be too few.
+#[tactic(auto, using(crate::proofs::Laws::roomy))]
+pub fn room(wanted: Wanted, lent: usize) -> Result<(), NoRoom>
+    ensures { Roomy wanted.reference wanted.target lent result }
 {
-    if lent >= uart_candidate::COUNT {
-        return 0;
+    if lent >= COUNT {
+        return Ok(());
     }
-    let n = viable_count(reference, target);
-    if n <= lent { 0 } else { n }
-}
-
-// Where a list that is refused begins: past its end.
-pub fn start(refused: usize) -> u32
-    ensures { Start refused result }
-{
-    if refused == 0 {
-        uart_candidate::FIRST
-    } else {
-        uart_candidate::LAST + 1
+    let needed = viable_count(wanted);
+    if needed > lent {
+        return Err(NoRoom { needed });
     }
-}
-
-// The viable pair with this bdiv. A clock divisor of 0 says that there is none.
-pub fn record_at(reference: u32, target: u32, bdiv: u32) -> BaudDivisors
-    ensures { Slot (of_whole reference) (of_whole target) bdiv result }
-{
-    let tried = uart_candidate::viable(reference, target, bdiv);
-    match tried {
-        Tried::Pair(p) => p,
-        Tried::Skipped => BaudDivisors {
-            cd: 0,
-            bdiv: 0,
-            error: 0.0,
-        },
-    }
+    Ok(())
 }

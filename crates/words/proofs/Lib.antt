@@ -1,6 +1,4 @@
 pub mod Choosing
-pub mod Keeping
-pub mod Nth
 pub mod Parts
 pub mod Reading
 pub mod Splitting

@@ -1,91 +1,65 @@
--- Cutting the first word off what is left of a line, and looking a word up among names.
-use mathlib.Core.Path.{◌≡◌, refl, sym, ap, ◌∙◌}
+-- A line's words are the parts that `split` gives at spaces; its first word; and looking a word up among names.
+use mathlib.Core.Path.{◌≡◌, refl, sym, ap, ◌∙◌, subst}
 use mathlib.Core.Bool.{Bool, true, false, cond}
 use mathlib.Core.List.{List, [], ◌∷◌}
-use Prim.Native.Nat.{ℕ, zero, suc, ◌+◌, ◌-◌, ◌≤◌, ◌<◌, zero-le, suc-le-suc}
-use native.Mathlib.Nat.{le_of_suc-le-suc}
-use native.Mathlib.Decide.{dec_lt}
+use Prim.Native.Nat.{ℕ, zero, suc, ◌+◌, ◌-◌, ◌<◌, suc-le-suc, zero-le}
+use native.Mathlib.Nat.{le_of_suc-le-suc, add-zero, zero-add}
 use native.Mathlib.Omega.{arith}
-use borrow.Author.Count.{below_more}
-use borrow.Author.Tests.{lt-ltb, le-ltb, eq-eqb, ne_eqb, eqb-true}
-use lib.Dec.{eqb, leb-suc-suc}
+use borrow.Author.Tests.{eq-eqb, ne_eqb, eqb-true}
+use lib.Dec.{eqb}
 use lib.ListN.{length, get_or, take, drop, length-drop}
-use lib.Seq.{get_or-drop, drop-drop}
-use Rattle.words.specs.declared.split.Placed.TheVariants as Placed
+use lib.Seq.{take-length}
+use Rattle.std.specs.Prelude.{Option, Some, None, MatchOption}
+use denote.Param.Members.{Mut}
+use Rattle.std.specs.Borrow.{Bor}
+use Rattle.std.specs.Fn.{CalledAt}
+use Rattle.std.specs.Slice.Iter.{split_rest, split_done, split_callee, split_steps}
+use Rattle.std.proofs.lemmas.Iterator.{YieldsList}
+use Rattle.std.proofs.lemmas.Iterator.Splits.{YieldsList-from_slice_split}
+use Rattle.std.specs.List.{slice_split, onto_first, AllWithin, HoldsAt}
 use Rattle.words.proofs.Choosing.{chosen, never}
-use Rattle.words.specs.Words.{before, words, words_from, Until, Ends, part, equal, place_after, place_of}
+use Rattle.words.specs.Words.{before, words, First, equal, place_after, place_of}
 
-pub within : (line : List ℕ) (from : ℕ) → from ≤ length line → words_from line from ≡ words (drop from line)
-unfolding words_from
-within line from h = simp (le-ltb (length line) from h)
+before_is : (c : ℕ) (ws : List (List ℕ)) → before c ws ≡ onto_first c ws
+before_is c [] = refl
+before_is c (w ∷ ws) = refl
 
-pub past : (line : List ℕ) (from : ℕ) → length line < from → words_from line from ≡ []
-unfolding words_from
-past line from h = simp (lt-ltb (length line) from h)
+pub words_split : (line : List ℕ) → slice_split (λ c. eqb c 32) line ≡ words line
+words_split [] = refl
+words_split (c ∷ line) = rw (words_split line, before_is c (words line))
 
-pub from_start : (line : List ℕ) → words_from line 0 ≡ words line
-from_start line = within line 0 zero-le
+-- what `split` at spaces yields
+pub words_yielded : {F : Type 0} {s : _} (g : Mut F (Bor ℕ × Unit {0}) Bool) {f : F} (line : List ℕ) → split_rest s ≡ line → split_done s ≡ false → split_callee s ≡ f → ((x : ℕ) (b : Bool) (q : F) → CalledAt g f x b q → (q ≡ f) × (b ≡ eqb x 32)) → YieldsList (split_steps g) (λ x. x.now) s (words line)
+words_yielded {s = s} g line rest done callee called =
+    subst (λ (ws : List (List ℕ)). YieldsList (split_steps g) (λ x. x.now) s ws) (words_split line) (YieldsList-from_slice_split {s = s} g (λ b. eqb b 32) line rest done callee called)
 
-shift : (c : ℕ) (line : List ℕ) (n : ℕ) → words_from (c ∷ line) (suc n) ≡ words_from line n
-unfolding words_from
-shift c line n = ap (λ (b : Bool). cond b [] (words (drop n line))) (leb-suc-suc (suc (length line)) n)
-
-cut : (n : ℕ) (line : List ℕ) → n ≤ length line → ((k : ℕ) → k < n → get_or line k 0 ≡ 32 → ⊥) → (n < length line → get_or line n 0 ≡ 32) → words line ≡ take n line ∷ words_from line (suc n)
-cut zero [] h none stop = ap (λ (ws : List (List ℕ)). [] ∷ ws) (sym (past [] 1 (suc-le-suc zero-le)))
-cut zero (c ∷ line) h none stop = simp (eq-eqb c 32 (stop (suc-le-suc zero-le))) (ap (λ (ws : List (List ℕ)). [] ∷ ws) (sym (shift c line 0 ∙ from_start line)))
+-- up to the first space is a word
+pub cut : (n : ℕ) (line : List ℕ) → n < length line → ((k : ℕ) → k < n → get_or line k 0 ≡ 32 → ⊥) → get_or line n 0 ≡ 32 → words line ≡ take n line ∷ words (drop (n + 1) line)
+cut zero [] h none stop = absurd (omega arith)
+cut zero (c ∷ line) h none stop = simp (eq-eqb c 32 stop)
 cut (suc n) [] h none stop = absurd (omega arith)
 cut (suc n) (c ∷ line) h none stop =
     simp (ne_eqb c 32 (none 0 (suc-le-suc zero-le)))
-    (ap (before c) (cut n line (le_of_suc-le-suc h) (λ k l. none (suc k) (suc-le-suc l)) (λ l. stop (suc-le-suc l))) ∙ ap (λ (ws : List (List ℕ)). (c ∷ take n line) ∷ ws) (sym (shift c line (suc n))))
-
-further : (line : List ℕ) (from n : ℕ) → from ≤ length line → words_from (drop from line) n ≡ words_from line (from + n)
-further line from n h =
-    elim (dec_lt (length line) (from + n)) [
-      | yes l ↦ past (drop from line) n (omega (arith, length-drop from line)) ∙ sym (past line (from + n) l)
-      | no l ↦
-          within (drop from line) n (omega (arith, length-drop from line))
-          ∙ ap words (drop-drop n from line)
-          ∙ sym (within line (from + n) (omega arith))
-    ]
-
--- what has been passed in looking for a byte
-pub record Passed (line : List ℕ) (from byte at : ℕ) : Type 0 where
-  pub begun : from ≤ at
-  pub inside : at ≤ length line
-  pub none_before : (k : ℕ) → k < at - from → get_or line (from + k) 0 ≡ byte → ⊥
-
-pub begin : (line : List ℕ) (from byte : ℕ) → from ≤ length line → Passed line from byte from
-begin line from byte h = record { begun = omega arith; inside = h; none_before = λ k l. absurd (omega arith) }
-
-pub one_more : {line : List ℕ} {from byte at : ℕ} → Passed line from byte at → at < length line → (get_or line at 0 ≡ byte → ⊥) → Passed line from byte (at + 1)
-one_more {line} {from} {byte} {at} p l c =
-    record {
-      begun = omega (arith, p.begun);
-      inside = omega arith;
-      none_before = λ k h. below_more (λ (j : ℕ). get_or line (from + j) 0 ≡ byte → ⊥) (at - from) p.none_before (λ e. c (ap (λ (j : ℕ). get_or line j 0) there ∙ e)) k (omega (arith, p.begun));
-    }
+    (ap (before c) (cut n line (le_of_suc-le-suc h) (λ k l. none (suc k) (suc-le-suc l)) stop) ∙ ap (λ (m : ℕ). (c ∷ take n line) ∷ words (drop m (c ∷ line))) next)
   where
-    there : at ≡ from + (at - from)
-    there = omega (arith, p.begun)
+    next : suc (n + 1) ≡ suc n + 1
+    next = omega arith
 
-pub stop : {line : List ℕ} {from byte at : ℕ} → Passed line from byte at → (at < length line → get_or line at 0 ≡ byte) → Until line from byte at
-stop p t = record { begun = p.begun; inside = p.inside; none_before = p.none_before; there = t }
+-- and where there is none, the line is one
+pub one_word : (line : List ℕ) → ((k : ℕ) → k < length line → get_or line k 0 ≡ 32 → ⊥) → words line ≡ line ∷ []
+one_word [] none = refl
+one_word (c ∷ line) none =
+    simp (ne_eqb c 32 (none 0 (suc-le-suc zero-le))) (ap (before c) (one_word line (λ k l. none (suc k) (suc-le-suc l))))
 
--- up to a space is a word
-a_cut : {line : List ℕ} {from end : ℕ} → Until line from 32 end → words_from line from ≡ part line from end ∷ words_from line (end + 1)
-a_cut {line} {from} {end} u =
-    within line from (omega (arith, u.begun, u.inside))
-    ∙ cut (end - from) (drop from line) (omega (arith, length-drop from line, u.inside)) (λ k h e. u.none_before k h (sym (get_or-drop from line k 0) ∙ e)) (λ h. get_or-drop from line (end - from) 0 ∙ ap (λ (j : ℕ). get_or line j 0) here ∙ u.there (omega (arith, length-drop from line, u.begun)))
-    ∙ ap (λ (ws : List (List ℕ)). part line from end ∷ ws) (further line from (suc (end - from)) (omega (arith, u.begun, u.inside)) ∙ ap (words_from line) next)
-  where
-    here : from + (end - from) ≡ end
-    here = omega (arith, u.begun)
+-- what is left from a place on, as far as the line goes
+pub all_left : (n : ℕ) (line : List ℕ) → drop n line ≡ take (length line - n) (drop n line)
+all_left n line = sym (ap (λ (m : ℕ). take m (drop n line)) (sym (length-drop n line)) ∙ take-length (drop n line))
 
-    next : from + suc (end - from) ≡ end + 1
-    next = omega (arith, u.begun)
+pub first_cut : (line : List ℕ) (end : ℕ) → First line 0 32 (Some end) → words line ≡ take end line ∷ words (take (length line - (end + 1)) (drop (end + 1) line))
+first_cut line end f = cut end line f.1 (λ k h e. f.0.none_before k (omega arith) (ap (λ (j : ℕ). get_or line j 0) (zero-add k) ∙ e)) (f.0.there f.1) ∙ ap (λ (rest : List ℕ). take end line ∷ words rest) (all_left (end + 1) line)
 
-pub an_end : {line : List ℕ} {from end : ℕ} → Until line from 32 end → Ends line from end
-an_end u = record { begun = u.begun; inside = u.inside; one_word = a_cut u }
+pub first_whole : (line : List ℕ) → First line 0 32 None → words line ≡ line ∷ []
+first_whole line f = let u = f zero-le in one_word line (λ k h e. u.none_before k (omega arith) (ap (λ (j : ℕ). get_or line j 0) (zero-add k) ∙ e))
 
 -- looking a word up
 equal_same : (word : List ℕ) → equal word word ≡ true
@@ -96,64 +70,41 @@ unless_both : (test : Bool) {x : Bool} → (test ≡ true → x ≡ false) → c
 unless_both true h = h refl
 unless_both false h = refl
 
-not_equal : (word name : List ℕ) → (word ≡ name → ⊥) → equal word name ≡ false
+not_equal : (word name : List ℕ) → (name ≡ word → ⊥) → equal word name ≡ false
 not_equal [] [] n = absurd (n refl)
 not_equal [] (d ∷ name) n = refl
 not_equal (c ∷ word) [] n = refl
 not_equal (c ∷ word) (d ∷ name) n = unless_both (eqb c d) (λ t. not_equal word name (λ q. n (let h = eqb-true c d t in cc)))
 
--- the word is none of the first i names, and the others stand from `from` on
-pub record Looked (word line : List ℕ) (i from : ℕ) : Type 0 where
-  pub small : i ≤ from
-  pub rest : place_after i word (words_from line from) ≡ place_of word (words line)
+nowhere : (i : ℕ) (word : List ℕ) (names : List (List ℕ)) → AllWithin (λ name. name ≡ word → ⊥) names 0 (length names) → None ≡ place_after i word names
+nowhere i word [] none = refl
+nowhere i word (name ∷ names) none =
+    simp (not_equal word name (none 0 [] zero-le (suc-le-suc zero-le)))
+    (nowhere (i + 1) word names (λ k d z l. none (suc k) d zero-le (suc-le-suc l)))
 
-pub look : (word line : List ℕ) → Looked word line 0 0
+somewhere : (i j : ℕ) (word : List ℕ) (names : List (List ℕ)) → j < length names → get_or names j [] ≡ word → AllWithin (λ name. name ≡ word → ⊥) names 0 j → Some (i + j) ≡ place_after i word names
+somewhere i j word [] h here none = absurd (omega arith)
+somewhere i zero word (name ∷ names) h here none = simp (here, equal_same word) (ap Some (add-zero i))
+somewhere i (suc j) word (name ∷ names) h here none =
+    simp (not_equal word name (none 0 [] zero-le (suc-le-suc zero-le)))
+    (ap Some further ∙ somewhere (i + 1) j word names (le_of_suc-le-suc h) here (λ k d z l. none (suc k) d zero-le (suc-le-suc l)))
+  where
+    further : i + suc j ≡ i + 1 + j
+    further = omega arith
+
+-- what `position` says of the first name that is the word
+pub placed : (word : List ℕ) (names : List (List ℕ)) (r : Option ℕ) → MatchOption r (AllWithin (λ name. name ≡ word → ⊥) names 0 (length names)) (λ i. (i < length names) × HoldsAt (λ name. name ≡ word) names i × AllWithin (λ name. name ≡ word → ⊥) names 0 i) → r ≡ place_of word names
 unfolding place_of
-look word line = record { small = zero-le; rest = ap (place_after 0 word) (from_start line) }
+placed word names None none = nowhere 0 word names none
+placed word names (Some j) found = ap Some start ∙ somewhere 0 j word names found.0 (found.1 []) found.2
+  where
+    start : j ≡ 0 + j
+    start = omega arith
 
-module _ {word line : List ℕ} {i from : ℕ} (l : Looked word line i from) where
-  pub found : (w : List ℕ) (ws : List (List ℕ)) → words_from line from ≡ w ∷ ws → word ≡ w → Placed.At i ≡ place_of word (words line)
-  found w ws e same = sym (simp (e, sym same, equal_same word)) ∙ l.rest
-
-  pub look_on : (w : List ℕ) (next : ℕ) → words_from line from ≡ w ∷ words_from line next → from < next → (word ≡ w → ⊥) → Looked word line (i + 1) next
-  look_on w next e h other = record { small = omega (arith, l.small); rest = sym (simp (e, not_equal word w other)) ∙ l.rest }
-
-  pub not_found : length line < from → Placed.Nowhere ≡ place_of word (words line)
-  not_found h = sym (simp (past line from h)) ∙ l.rest
-
-place_after_below : (i : ℕ) (word : List ℕ) (names : List (List ℕ)) {j : ℕ} → place_after i word names ≡ Placed.At j → j < i + length names
+place_after_below : (i : ℕ) (word : List ℕ) (names : List (List ℕ)) {j : ℕ} → place_after i word names ≡ Some j → j < i + length names
 place_after_below i word [] e = never (cc)
 place_after_below i word (name ∷ names) {j} e = chosen (equal word name) (λ t q. let same : i ≡ j = cc in omega arith) (λ f q. omega (arith, place_after_below (i + 1) word names q)) e
 
-pub place_below : (word : List ℕ) (names : List (List ℕ)) {j : ℕ} → place_of word names ≡ Placed.At j → j < length names
+pub place_below : (word : List ℕ) (names : List (List ℕ)) {j : ℕ} → place_of word names ≡ Some j → j < length names
 unfolding place_of
 place_below word names e = omega (arith, place_after_below 0 word names e)
-
--- there is a word wherever the line has not ended
-first_of : (line : List ℕ) → (w : List ℕ) × (ws : List (List ℕ)) × (words line ≡ w ∷ ws)
-first_of [] = ([], [], refl)
-first_of (c ∷ line) = go (eqb c 32) (words line) (first_of line)
-  where
-    go : (b : Bool) (ws : List (List ℕ)) → (w : List ℕ) × (vs : List (List ℕ)) × (ws ≡ w ∷ vs) → (w : List ℕ) × (vs : List (List ℕ)) × (cond b ([] ∷ ws) (before c ws) ≡ w ∷ vs)
-    go true ws f = ([], ws, refl)
-    go false ws f = (c ∷ f.0, f.1, ap (before c) f.2)
-
-pub a_word : (line : List ℕ) (from : ℕ) → from ≤ length line → (w : List ℕ) × (ws : List (List ℕ)) × (words_from line from ≡ w ∷ ws)
-a_word line from h = let f = first_of (drop from line) in (f.0, f.1, within line from h ∙ f.2)
-
--- the words after a line's first begin one past the space behind it
-pub next_words : (line word : List ℕ) (more : List (List ℕ)) → words line ≡ word ∷ more → words_from line (length word + 1) ≡ more
-next_words [] word more e = let none : word ≡ [] = cc in let no_more : more ≡ [] = cc in rw (none, no_more) (past [] 1 (omega arith))
-next_words (c ∷ line) word more e =
-    let f = first_of line in chosen (eqb c 32) at_space (λ t q. within_word f.0 f.1 f.2 (next_words line f.0 f.1 f.2) q) e
-  where
-    at_space : eqb c 32 ≡ true → [] ∷ words line ≡ word ∷ more → words_from (c ∷ line) (length word + 1) ≡ more
-    at_space t q = let none : word ≡ [] = cc in let rest : words line ≡ more = cc in rw (none, ← rest) (shift c line 0 ∙ from_start line)
-
-    within_word : (w : List ℕ) (ws : List (List ℕ)) → words line ≡ w ∷ ws → words_from line (length w + 1) ≡ ws → before c (words line) ≡ word ∷ more → words_from (c ∷ line) (length word + 1) ≡ more
-    within_word w ws f n q =
-        let g : (c ∷ w) ∷ ws ≡ word ∷ more = sym (ap (before c) f) ∙ q in
-        let is : word ≡ c ∷ w = cc in
-        let rest : ws ≡ more = cc in
-        let past_it : suc (length w) + 1 ≡ suc (length w + 1) = omega arith in
-        rw (is, ← rest, past_it) (shift c line (length w + 1) ∙ n)

@@ -1,6 +1,6 @@
 -- The words of a line: what stands between its spaces. Two spaces in a row, or one at either end, make an empty word.
-use Rattle.std.specs.Prelude.{ℕ, ◌+◌, ◌-◌, ◌≤◌, ◌<◌, ◌≡◌, Bool, true, false, cond, List, [], ◌∷◌, ◌++◌, eqb, ltb, length, get_or, take, drop}
-use Rattle.words.specs.declared.split.Placed.{Placed}
+use Rattle.std.specs.Prelude.{ℕ, ◌+◌, ◌-◌, ◌≤◌, ◌<◌, ◌≡◌, Bool, true, false, cond, List, [], ◌∷◌, ◌++◌, eqb, length, get_or, take, drop, Option, Some, None}
+use Rattle.std.specs.Borrow.{Bor}
 
 -- a byte in front of the first word
 abbrev pub before : ℕ → List (List ℕ) → List (List ℕ)
@@ -11,9 +11,10 @@ abbrev pub words : List ℕ → List (List ℕ)
 words [] = [] ∷ []
 words (c ∷ line) = cond (eqb c 32) ([] ∷ words line) (before c (words line))
 
--- the words from a position on: none where the line has ended before it
-unfoldable pub words_from : List ℕ → ℕ → List (List ℕ)
-words_from line from = cond (ltb (length line) from) [] (words (drop from line))
+-- the words after one: those behind the space that ends it, and none where no space does
+abbrev pub further : Option (Bor (List ℕ)) → List (List ℕ)
+further None = []
+further (Some rest) = words rest.now
 
 -- `end` is the first place of the byte from `from` on, or the line's end
 pub record Until (line : List ℕ) (from byte end : ℕ) : Type 0 where
@@ -21,6 +22,11 @@ pub record Until (line : List ℕ) (from byte end : ℕ) : Type 0 where
   pub inside : end ≤ length line
   pub none_before : (k : ℕ) → k < end - from → get_or line (from + k) 0 ≡ byte → ⊥
   pub there : end < length line → get_or line end 0 ≡ byte
+
+-- the same as an answer: a place within the line, or that there is none, as past its end
+abbrev pub First : List ℕ → ℕ → ℕ → Option ℕ → Type 0
+First line from byte (Some end) = Until line from byte end × (end < length line)
+First line from byte None = from ≤ length line → Until line from byte (length line)
 
 -- the bytes from `from` up to `end`
 abbrev pub part : List ℕ → ℕ → ℕ → List ℕ
@@ -30,12 +36,6 @@ part line from end = take (end - from) (drop from line)
 abbrev pub Moved : List ℕ → ℕ → ℕ → List ℕ → ℕ → Type 0
 Moved before from to after kept = (kept ≡ length (part before from to)) × (after ≡ part before from to ++ drop kept before)
 
--- the word that begins at `from` ends before `end`, and the next begins one past that
-pub record Ends (line : List ℕ) (from end : ℕ) : Type 0 where
-  pub begun : from ≤ end
-  pub inside : end ≤ length line
-  pub one_word : words_from line from ≡ part line from end ∷ words_from line (end + 1)
-
 abbrev pub equal : List ℕ → List ℕ → Bool
 equal [] [] = true
 equal [] (d ∷ name) = false
@@ -43,9 +43,9 @@ equal (c ∷ word) [] = false
 equal (c ∷ word) (d ∷ name) = cond (eqb c d) (equal word name) false
 
 -- the first place of a word among names, the first of which has place i
-abbrev pub place_after : ℕ → List ℕ → List (List ℕ) → Placed
-place_after i word [] = Placed.Nowhere
-place_after i word (name ∷ names) = cond (equal word name) (Placed.At i) (place_after (i + 1) word names)
+abbrev pub place_after : ℕ → List ℕ → List (List ℕ) → Option ℕ
+place_after i word [] = None
+place_after i word (name ∷ names) = cond (equal word name) (Some i) (place_after (i + 1) word names)
 
-unfoldable pub place_of : List ℕ → List (List ℕ) → Placed
+unfoldable pub place_of : List ℕ → List (List ℕ) → Option ℕ
 place_of word names = place_after 0 word names

@@ -5,15 +5,10 @@ ghost use Rattle.words.specs.Words.{Moved};
 pub fn keep(input: &mut [u8], from: usize, to: usize) -> usize
     ensures { Moved input.old from to input.new result }
 {
-    let mut i = 0;
-    let mut at = from;
-    while at < to {
-        if at >= input.len() {
-            return i;
-        }
-        input[i] = input[at];
-        i += 1;
-        at += 1;
+    let end = to.min(input.len());
+    if end <= from {
+        return 0;
     }
-    i
+    input.copy_within(from..end, 0);
+    end - from
 }

@@ -6,5 +6,5 @@ mod read;
 mod split;
 
 pub use front::keep;
-pub use read::{Hex, Number, read_decimal, read_hex};
-pub use split::{Placed, nth_word, place, until, word_end};
+pub use read::{HexError, NumberError, read_decimal, read_hex};
+pub use split::{first_word, place, until};

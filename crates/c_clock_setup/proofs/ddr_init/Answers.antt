@@ -1,15 +1,15 @@
 -- `c_clock_setup::ddr_init` hands back what the pure part tells. Assumes nothing.
-use mathlib.Core.Path.{ap}
-use native.Mathlib.Omega.{arith}
+use mathlib.Core.Path.{refl}
+use Rattle.clock_setup.proofs.Laws.{as_refusal}
+use Rattle.handing.proofs.Exits.{room_left, passed_on}
 use Rattle.handing.proofs.Handing.{refuses, answers}
-use Rattle.clock_setup.specs.Ddr.{told_ddr}
 use Rattle.c_clock_setup.proofs.ddr_init.Goals as goal
 
-pub returns-in-Clocks : goal.returns-in-Clocks
-returns-in-Clocks c = answers (omega arith) c.new_with_2x_3x_init.ensures (ap told_ddr c.in-Clocks.is) (c.put.ensures.fits (omega arith))
+pub returns-in_err-c : goal.returns-in_err-c
+returns-in_err-c c =
+    refuses (room_left c.room.ensures c.in_ok-room.was) c.in_err-c.ensures (as_refusal _) (passed_on c.from_residual-in_err-c.ensures.1)
 
-pub returns-in-DivisorZero : goal.returns-in-DivisorZero
-returns-in-DivisorZero c = rw c.carrying.ensures (refuses (omega arith) c.new_with_2x_3x_init.ensures (ap told_ddr c.in-DivisorZero.is) tt)
-
-pub returns-in-BadField : goal.returns-in-BadField
-returns-in-BadField c = refuses (omega arith) c.new_with_2x_3x_init.ensures (ap told_ddr c.in-BadField.is) tt
+pub returns : goal.returns
+returns c =
+    let fits = room_left c.room.ensures c.in_ok-room.was in
+    answers fits c.in_ok-c.ensures refl (c.put.ensures.fits fits)

@@ -1,16 +1,15 @@
 -- `c_clocks::clocks` hands back what evaluation tells. Assumes nothing.
-use mathlib.Core.Path.{ap}
-use native.Mathlib.Omega.{arith}
-use Rattle.handing.proofs.Handing.{answers}
-use Rattle.evaluation.specs.Evaluated.{told}
-use Rattle.c_clocks.proofs.Errors.{error_handed}
+use mathlib.Core.Path.{refl}
+use Rattle.handing.proofs.Exits.{room_left, passed_on}
+use Rattle.handing.proofs.Handing.{refuses, answers}
+use Rattle.c_clocks.proofs.Errors.{as_refusal}
 use Rattle.c_clocks.proofs.clocks.Goals as goal
 
-pub returns-in-Clocks : goal.returns-in-Clocks
-returns-in-Clocks c =
-    let w = c.put.ensures.fits (omega arith) in
-    answers (omega arith) c.new_from_regs.ensures (ap told c.in-Clocks.is) (w.0, cc)
+pub returns-in_err-c : goal.returns-in_err-c
+returns-in_err-c c =
+    refuses (room_left c.room.ensures c.in_ok-room.was) c.in_err-c.ensures (as_refusal _) (passed_on c.from_residual-in_err-c.ensures.1)
 
-pub returns-in-Refused : goal.returns-in-Refused
-returns-in-Refused c =
-    rw c.error_code.ensures (error_handed c.in-Refused.e (omega arith) c.in-Refused.ensures)
+pub returns : goal.returns
+returns c =
+    let fits = room_left c.room.ensures c.in_ok-room.was in
+    answers fits c.in_ok-c.ensures refl ((rw c.clock_words.ensures at c.put.ensures).fits fits)

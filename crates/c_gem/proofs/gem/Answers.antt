@@ -1,18 +1,18 @@
 -- `c_gem::gem` hands back what the GEM clock tells. Assumes nothing.
-use mathlib.Core.Path.{ap}
-use native.Mathlib.Omega.{arith}
+use mathlib.Core.Path.{refl}
 use Rattle.bounds.proofs.Bound.{kept}
+use Rattle.handing.proofs.Exits.{room_left, passed_on}
 use Rattle.handing.proofs.Handing.{refuses, answers}
-use Rattle.gem.specs.Gem.{told}
 use Rattle.c_gem.proofs.gem.Goals as goal
 
-pub returns-in-Hertz : goal.returns-in-Hertz
-returns-in-Hertz c =
-    let e = rw c.module.ensures at c.calculate_gem_ref_clock.ensures in
-    kept (omega arith) (answers (omega arith) e (ap told c.in-Hertz.is) (c.put.ensures.fits (omega arith)))
+pub returns-in_err-hertz : goal.returns-in_err-hertz
+returns-in_err-hertz c =
+    kept (room_left c.room.ensures c.in_ok-room.was)
+    (refuses (room_left c.room-2.ensures c.in_ok-room-2.was) (rw c.module.ensures at c.in_err-hertz.ensures) refl
+    (passed_on c.from_residual-in_err-hertz.ensures.1))
 
-pub returns-in-DivisorZero : goal.returns-in-DivisorZero
-returns-in-DivisorZero c =
-    let e = rw c.module.ensures at c.calculate_gem_ref_clock.ensures in
-    kept (omega arith)
-    (rw (c.carrying.ensures, c.number.ensures) (refuses (omega arith) e (ap told c.in-DivisorZero.is) tt))
+pub returns : goal.returns
+returns c =
+    let fits = room_left c.room-2.ensures c.in_ok-room-2.was in
+    kept (room_left c.room.ensures c.in_ok-room.was)
+    (answers fits (rw c.module.ensures at c.in_ok-hertz.ensures) refl (c.put.ensures.fits fits))

@@ -1,12 +1,14 @@
 -- `c_pll_settings::pll_mul` hands back what the table tells. Assumes nothing.
-use mathlib.Core.Path.{ap}
-use native.Mathlib.Omega.{arith}
+use mathlib.Core.Path.{refl}
+use Rattle.handing.proofs.Exits.{room_left, passed_on}
 use Rattle.handing.proofs.Handing.{refuses, answers}
-use Rattle.pll_settings.specs.Settings.{told}
 use Rattle.c_pll_settings.proofs.pll_mul.Goals as goal
 
-pub returns-in-Found : goal.returns-in-Found
-returns-in-Found c = answers (omega arith) c.new.ensures (ap told c.in-Found.is) (c.put.ensures.fits (omega arith))
+pub returns-in_err-s : goal.returns-in_err-s
+returns-in_err-s c =
+    refuses (room_left c.room.ensures c.in_ok-room.was) c.in_err-s.ensures refl (passed_on c.from_residual-in_err-s.ensures.1)
 
-pub returns-in-MulRange : goal.returns-in-MulRange
-returns-in-MulRange c = rw c.carrying.ensures (refuses (omega arith) c.new.ensures (ap told c.in-MulRange.is) tt)
+pub returns : goal.returns
+returns c =
+    let fits = room_left c.room.ensures c.in_ok-room.was in
+    answers fits c.in_ok-s.ensures refl (rw c.words.ensures at (c.put.ensures.fits (rw c.words.ensures fits)))

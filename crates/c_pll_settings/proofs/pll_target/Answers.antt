@@ -1,12 +1,14 @@
--- `c_pll_settings::pll_target` hands back the setting of target over crystal. Assumes nothing.
+-- `c_pll_settings::pll_target` hands back what the table tells. Assumes nothing.
 use mathlib.Core.Path.{refl}
-use native.Mathlib.Omega.{arith}
-use Rattle.handing.proofs.Handing.{refuses, handed_by}
-use Rattle.pll_settings.specs.Settings.{no_crystal, by_multiplier}
+use Rattle.handing.proofs.Exits.{room_left, passed_on}
+use Rattle.handing.proofs.Handing.{refuses, answers}
 use Rattle.c_pll_settings.proofs.pll_target.Goals as goal
 
-pub returns-then-crystal-eq0 : goal.returns-then-crystal-eq0
-returns-then-crystal-eq0 c = refuses (omega arith) (no_crystal (omega arith)) refl tt
+pub returns-in_err-s : goal.returns-in_err-s
+returns-in_err-s c =
+    refuses (room_left c.room.ensures c.in_ok-room.was) c.in_err-s.ensures refl (passed_on c.from_residual-in_err-s.ensures.1)
 
 pub returns : goal.returns
-returns c = handed_by (λ t right. by_multiplier (omega arith) right) c.pll_mul.ensures
+returns c =
+    let fits = room_left c.room.ensures c.in_ok-room.was in
+    answers fits c.in_ok-s.ensures refl (rw c.words.ensures at (c.put.ensures.fits (rw c.words.ensures fits)))

@@ -1,17 +1,19 @@
--- `c_ratios::ratios` hands back what the check call and the table tell. Assumes nothing.
+-- `c_ratios::ratios` hands back what the check call tells. Assumes nothing.
 use mathlib.Core.Path.{refl}
 use native.Mathlib.Omega.{arith}
-use Rattle.c_clocks.proofs.Errors.{error_handed}
+use Rattle.handing.proofs.Exits.{room_left, passed_on}
 use Rattle.handing.proofs.Handing.{refuses, answers}
-use Rattle.c_ratios.proofs.Laws.{error_told, refusal_told, table_told}
+use Rattle.c_ratios.proofs.Laws.{as_refusal, long, table_or_refusal}
 use Rattle.c_ratios.proofs.ratios.Goals as goal
 
-pub returns-in-Fine : goal.returns-in-Fine
-returns-in-Fine c = answers (omega arith) (table_told _ _ c.table.ensures c.in-Fine.ensures) refl (refl, c.put_table.ensures)
+pub returns-in_err-table : goal.returns-in_err-table
+returns-in_err-table c =
+    refuses (room_left c.room.ensures c.in_ok-room.was) (table_or_refusal _ _ c.in_err-table.ensures) (as_refusal _)
+    (passed_on c.from_residual-in_err-table.ensures.1)
 
-pub returns-in-Refused : goal.returns-in-Refused
-returns-in-Refused c = rw c.error_code.ensures
-    (error_handed c.in-Refused.error (omega arith) (error_told _ _ c.in-Refused.error c.in-Refused.ensures))
-
-pub returns-in-ZeroClock : goal.returns-in-ZeroClock
-returns-in-ZeroClock c = refuses (omega arith) (refusal_told _ _ c.in-ZeroClock.ensures) refl tt
+pub returns : goal.returns
+returns c =
+    let fits = room_left c.room.ensures c.in_ok-room.was in
+    let told = table_or_refusal _ _ c.in_ok-table.ensures in
+    let put = rw (c.as_flattened.ensures.value, c.table_words.ensures) at c.put.ensures in
+    answers fits told refl (put.fits (omega (arith, long _ _ told)))

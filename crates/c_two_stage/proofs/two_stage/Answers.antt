@@ -1,15 +1,12 @@
 -- `c_two_stage::two_stage` hands back what the search tells. Assumes nothing.
-use mathlib.Core.Path.{ap}
-use native.Mathlib.Omega.{arith}
+use mathlib.Core.Path.{refl}
+use Rattle.handing.proofs.Exits.{room_left, passed_on}
 use Rattle.handing.proofs.Handing.{refuses, answers}
-use Rattle.two_stage.specs.Answer.{told}
 use Rattle.c_two_stage.proofs.two_stage.Goals as goal
 
-pub returns-in-Found : goal.returns-in-Found
-returns-in-Found c = answers (omega arith) c.find_two_stage_divisors.ensures (ap told c.in-Found.is) (c.put.ensures.fits (omega arith))
+pub returns-in_err-p : goal.returns-in_err-p
+returns-in_err-p c =
+    refuses (room_left c.room.ensures c.in_ok-room.was) c.in_err-p.ensures refl (passed_on c.from_residual-in_err-p.ensures.1)
 
-pub returns-in-ZeroTarget : goal.returns-in-ZeroTarget
-returns-in-ZeroTarget c = refuses (omega arith) c.find_two_stage_divisors.ensures (ap told c.in-ZeroTarget.is) tt
-
-pub returns-in-BadMax : goal.returns-in-BadMax
-returns-in-BadMax c = refuses (omega arith) c.find_two_stage_divisors.ensures (ap told c.in-BadMax.is) tt
+pub returns : goal.returns
+returns c = let fits = room_left c.room.ensures c.in_ok-room.was in answers fits c.in_ok-p.ensures refl (c.put.ensures.fits fits)

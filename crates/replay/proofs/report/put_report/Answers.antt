@@ -6,6 +6,8 @@ use Rattle.replay.proofs.report.put_report.Goals as goal
 
 pub returns : goal.returns
 returns c =
-    kept (omega (arith, c.if-room-lt320.false, c.room.ensures))
-    (reported _ c.put_line-first.ensures c.put_line-second.ensures c.put_line-difference.ensures c.put_difference-leads.ensures
-    c.put_lead-last.ensures c.put_lead.ensures)
+    kept (omega (arith, c.if-room-lt320.false, c.room.ensures)) (
+      c.put_lead-2.ensures.0,
+      reported c.args.trace (rw c.from.ensures at c.put_line.ensures).1 c.put_line-2.ensures.1 c.put_line-3.ensures.1 c.put_difference.ensures.1 c.put_lead.ensures.1
+          c.put_lead-2.ensures.1,
+    )

@@ -1,13 +1,15 @@
--- `words::read::read_hex` meets its contract: `HexTo` is what is known after i digits.
+-- `words::read::read_hex` meets its contract.
+use mathlib.Core.Path.{ap, ◌∙◌}
 use native.Mathlib.Omega.{arith}
-use Rattle.words.proofs.Reading.{no_hex, not_eight, hex_none}
+use Rattle.std.proofs.Common.{rules, tests}
+use Rattle.words.proofs.Reading.{eight, no_hex, eight_digits, not_eight, mapped}
 use Rattle.words.proofs.read.read_hex.Goals as goal
 
-pub returns-then-word-eq0 : goal.returns-then-word-eq0
-returns-then-word-eq0 c = no_hex _ c.if-word-eq0.true
+pub returns-in-0 : goal.returns-in-0
+returns-in-0 c = no_hex _ c.in-0.is
 
-pub returns-then-word-ne8 : goal.returns-then-word-ne8
-returns-then-word-ne8 c = not_eight _ (omega arith) c.if-word-ne8.true
+pub returns-in-8 : goal.returns-in-8
+returns-in-8 c = mapped _ _ (search (rules, tests)) ∙ ap eight c.number.ensures ∙ eight_digits _ c.in-8.is
 
-pub loop-i-init : goal.loop-i-init
-loop-i-init c = hex_none _ (omega arith)
+pub returns-in_default : goal.returns-in_default
+returns-in_default c = let h = c.in_default in not_eight _ (λ e. omega arith) (λ e. omega arith)
