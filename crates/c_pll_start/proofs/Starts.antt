@@ -1,20 +1,24 @@
 -- A start that is refused: no step takes its run, and it changes no mark. Assumes nothing.
-use Prim.Native.Nat.{ℕ, zero, suc, ◌%◌, ◌/◌, ◌<◌}
+use Prim.Native.Nat.{ℕ, zero, suc, ◌%◌, ◌/◌, ◌<◌, ◌≤◌}
 use mathlib.Core.Path.{◌≡◌, refl}
 use mathlib.Core.Bool.{Bool, true, false, cond, ◌&&◌}
 use mathlib.Core.List.{List, []}
 use native.Mathlib.Nat.{div-div-eq-div-mul}
 use native.Mathlib.Omega.{arith}
 use lib.Dec.{eqb, leb}
+use borrow.Author.Tests.{ne_eqb, le-leb}
 use Rattle.refusals.specs.Told.{Told, answered, refused}
 use Rattle.refusals.specs.Number.{BAD_FIELD, ALREADY}
 use Rattle.registers.specs.declared.PllType.{PllType}
 use Rattle.pll_step.specs.declared.PllSequence.{PllSequence}
-use Rattle.pll_start.specs.Start.{Once, marked, mark, once}
+use Rattle.pll_start.specs.Start.{start, Once, marked, mark, once}
 use Rattle.c_pll_start.specs.declared.Plan.{Plan}
-use Rattle.c_pll_start.specs.Step.{pll_of, nothing, stepped}
+use Rattle.c_pll_start.specs.Step.{pll_of, pll_plan_of, nothing, stepped}
 use Rattle.c_pll_start.specs.Start.{start_of, not_started, flag, marks_of, with_marks, started_once}
 use Rattle.c_pll_start.proofs.Stepped.{not_taken}
+
+pub begins : (p : Plan) → (p.polls ≡ 0 → ⊥) → p.pll ≤ 2 → start_of p ≡ start (pll_plan_of p) p.polls
+begins p h l = rw (ne_eqb _ _ h, le-leb _ _ l) refl
 
 pub no_run : (p : Plan) (n y : ℕ) → stepped (not_started p n).run y ≡ nothing BAD_FIELD (not_started p n).run
 no_run p n y = not_taken (not_started p n).run y (never (leb p.pll 2))

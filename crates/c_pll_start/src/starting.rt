@@ -27,7 +27,7 @@ fn not_started(plan: Plan, refusal: Refusal) -> Step
     ensures { result ≡ not_started plan (number_of refusal) }
 {
     nothing(
-        refusal,
+        refusal.number(),
         Run {
             plan,
             done: 255,

@@ -1,6 +1,5 @@
 // A step of a run that comes in by value. A caller can make any run: one whose numbers no run has is refused.
 ghost use Rattle.std.specs.Prelude.{◌≡◌};
-ghost use Rattle.refusals.specs.Refusal.{number_of};
 ghost use Rattle.pll_step.specs.Step.{told, next};
 ghost use Rattle.c_pll_start.specs.Step.{nothing, tells, given, stepped};
 
@@ -8,12 +7,12 @@ use crate::{LOCKED, NOTHING, Plan, READ, Run, Step, WRITE};
 use pll_step::{PllSequence, Request};
 use refusals::Refusal;
 
-// Refused: the host is to do nothing more.
-pub fn nothing(refusal: Refusal, run: Run) -> Step
-    ensures { result ≡ nothing (number_of refusal) run }
+// Refused, by the number of a refusal as a host in C has it: the host is to do nothing more.
+pub fn nothing(refusal: u32, run: Run) -> Step
+    ensures { result ≡ nothing refusal run }
 {
     Step {
-        refusal: refusal.number(),
+        refusal,
         request: NOTHING,
         number: 0,
         value: 0,
@@ -28,7 +27,7 @@ fn tell(request: Request, run: Run) -> Step
         Request::Read(number) => (READ, number, 0),
         Request::Write(number, value) => (WRITE, number, value),
         Request::Locked => (LOCKED, 0, 0),
-        Request::LockTimeout => return nothing(Refusal::LockTimeout, run),
+        Request::LockTimeout => return nothing(Refusal::LockTimeout.number(), run),
     };
     Step {
         refusal: 0,
@@ -53,6 +52,6 @@ pub fn pll_step(run: Run, word: u32) -> Step
 {
     match run.sequence() {
         Some(sequence) => go(run.plan, sequence, word),
-        None => nothing(Refusal::BadField, run),
+        None => nothing(Refusal::BadField.number(), run),
     }
 }

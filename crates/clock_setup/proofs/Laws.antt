@@ -1,11 +1,11 @@
 -- The laws of the set-up: one input has one right answer. Assumes nothing.
 use mathlib.Core.Path.{◌≡◌, refl, ap}
 use mathlib.Core.Logic.{◌⊎◌, ⊎_elim}
-use Prim.Native.Nat.{ℕ, ◌<◌, ◌≤◌}
+use Prim.Native.Nat.{ℕ, ◌*◌, ◌/◌, ◌<◌, ◌≤◌}
 use native.Mathlib.Omega.{arith}
 use Rattle.std.specs.Prelude.{Result, Ok, Err}
 use Rattle.refusals.specs.Refusal.{told as told_refusal}
-use Rattle.refusals.specs.Told.{Told}
+use Rattle.refusals.specs.Told.{Told, answered}
 use Rattle.clocks.specs.declared.arm.ArmClocks.{ArmClocks}
 use Rattle.clocks.specs.declared.arm.CpuClockRatio.{CpuClockRatio}
 use Rattle.clocks.specs.declared.ddr.DdrClocks.{DdrClocks}
@@ -15,7 +15,7 @@ use Rattle.clock_setup.specs.declared.SetupError.{SetupError}
 use Rattle.clock_setup.specs.declared.SetupError.TheVariants.{DivisorZero, BadField}
 use Rattle.clock_setup.specs.Setup.{refusal_of, told}
 use Rattle.clock_setup.specs.Cpu as cpu
-use Rattle.clock_setup.specs.Cpu.{CpuRight}
+use Rattle.clock_setup.specs.Cpu.{CpuRight, one, times_3x2x}
 use Rattle.clock_setup.specs.Ddr as ddr
 use Rattle.clock_setup.specs.Ddr.{DdrRight}
 
@@ -29,6 +29,13 @@ cpu_same (cpu.bad_field w) (cpu.clocks p q) = absurd (omega arith)
 cpu_same (cpu.clocks p q) (cpu.divisor_zero z) = absurd (omega arith)
 cpu_same (cpu.clocks p q) (cpu.bad_field w) = absurd (omega arith)
 cpu_same (cpu.clocks p q) (cpu.clocks r s) = refl
+
+-- clocks whose numbers are those of the ratio are right
+pub cpu_made : {pll divisor x₁ x₂ x₃ : ℕ} (ratio : CpuClockRatio) → 0 < divisor → divisor ≤ 63
+    → x₁ ≡ one ratio (pll / divisor) → x₂ ≡ one ratio (pll / divisor) * 2 → x₃ ≡ one ratio (pll / divisor) * times_3x2x ratio
+    → CpuRight pll ratio divisor
+      (answered (record { ref_clk = pll; ratio = ratio; cpu_1x_clk = x₁; cpu_2x_clk = x₂; cpu_3x2x_clk = x₃; cpu_6x4x_clk = pll / divisor }))
+cpu_made ratio some fits p q r = rw (p, q, r) (cpu.clocks some fits)
 
 -- a zero divisor is none that is there, and one too wide is none that fits
 no_zero : {a b : ℕ} → (a ≡ 0) ⊎ (b ≡ 0) → 0 < a → 0 < b → ⊥

@@ -61,15 +61,23 @@ pub fn new_with_cpu_clock_init(
     not_zero(divisor, ClockModuleId::Arm)?;
     six_bits(divisor)?;
     let cpu_6x4x_clk = arm_pll_clk / divisor;
-    let (cpu_1x_clk, cpu_3x2x_clk) = match clock_ratio {
-        CpuClockRatio::FourToTwoToOne => (cpu_6x4x_clk / 4, cpu_6x4x_clk / 4 * 2),
-        CpuClockRatio::SixToTwoToOne => (cpu_6x4x_clk / 6, cpu_6x4x_clk / 6 * 3),
+    let (cpu_1x_clk, cpu_2x_clk, cpu_3x2x_clk) = match clock_ratio {
+        CpuClockRatio::FourToTwoToOne => (
+            cpu_6x4x_clk / 4,
+            cpu_6x4x_clk / 4 * 2,
+            cpu_6x4x_clk / 4 * 2,
+        ),
+        CpuClockRatio::SixToTwoToOne => (
+            cpu_6x4x_clk / 6,
+            cpu_6x4x_clk / 6 * 2,
+            cpu_6x4x_clk / 6 * 3,
+        ),
     };
     Ok(ArmClocks {
         ref_clk: arm_pll_clk,
         ratio: clock_ratio,
         cpu_1x_clk,
-        cpu_2x_clk: cpu_1x_clk * 2,
+        cpu_2x_clk,
         cpu_3x2x_clk,
         cpu_6x4x_clk,
     })

@@ -27,7 +27,8 @@ one_line {line} x y = one_text (kind_of (trimmed line)) (trimmed line) x.text_is
 one_page : {text : List ℕ} {before a b : Contents} → Wrote text before a → Wrote text before b → a ≡ b
 one_page w v = let t = w.text_is ∙ sym v.text_is in
     let r = w.rest_is ∙ sym v.rest_is in
-    λ i. record { text = t i; rest = r i }
+    let l = w.same_buffer ∙ sym v.same_buffer in
+    λ i. record { text = t i; rest = r i; lent = l i }
 
 same_ok : (r q : Result Unit Full) → IsOk r → IsOk q → r ≡ q
 same_ok (Ok x) (Ok y) e f = refl

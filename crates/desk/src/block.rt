@@ -3,10 +3,14 @@
 ghost use Rattle.std.specs.Prelude.{◌≤◌, ◌≡◌, length, Ok};
 ghost use Rattle.bounds.specs.Within.{Within};
 ghost use Rattle.desk.specs.Block.{Block, LinesOf, fresh};
+ghost use Rattle.text.specs.Page.{contents};
 
 use crate::line::answer_line;
 use text::Page;
 use words::until;
+
+// How much of a line that has not ended is kept: the longest that is taken, and a carriage return behind it.
+const KEPT: usize = 1025;
 
 // How far the block has been used, and whether the rest of a line is to be swallowed.
 // Whether to swallow is not what the number beside it means: a call may go on from any place in either way.
@@ -25,7 +29,7 @@ pub struct FullAt {
 // Answers what it can of a block from a place on. The place is one that an earlier call answered, or the block's start; past the block's end
 // there is nothing to do.
 pub fn answer_block(input: &[u8], from: Place, page: &mut Page<'_>) -> Result<Place, FullAt>
-    ensures { Within from.used (length input.now) (Block input.now from page.old page.new result) ((result ≡ Ok from) × (page.new ≡ page.old)) }
+    ensures { Within from.used (length input.now) (Block input.now from (contents page.old) (contents page.new) result) ((result ≡ Ok from) × (contents page.new ≡ contents page.old)) }
 {
     if input.len() < from.used {
         return Ok(from);
@@ -46,10 +50,10 @@ pub fn answer_block(input: &[u8], from: Place, page: &mut Page<'_>) -> Result<Pl
 // long; then it is answered.
 fn answer_fresh(input: &[u8], from: usize, page: &mut Page<'_>) -> Result<Place, FullAt>
     requires { from ≤ length input.now }
-    ensures { Block input.now (fresh from) page.old page.new result }
+    ensures { Block input.now (fresh from) (contents page.old) (contents page.new) result }
 {
     let used = answer_lines(input, from, page)?;
-    if input.len() - used <= 1025 {
+    if input.len() - used <= KEPT {
         return Ok(Place {
             used,
             swallowing: false,
@@ -67,7 +71,7 @@ fn answer_fresh(input: &[u8], from: usize, page: &mut Page<'_>) -> Result<Place,
 // Every line that ends in the block, as far as there is room for the answers.
 fn answer_lines(input: &[u8], from: usize, page: &mut Page<'_>) -> Result<usize, FullAt>
     requires { from ≤ length input.now }
-    ensures { LinesOf input.now from page.old page.new result }
+    ensures { LinesOf input.now from (contents page.old) (contents page.new) result }
 {
     let mut used = from;
     // No split: what is behind the last newline is no line yet, and where a line finds no room its place is handed back.

@@ -4,13 +4,14 @@ ghost use Rattle.std.specs.Prelude.{◌≤◌, ◌≡◌, length, IsOk};
 ghost use Rattle.words.specs.Words.{words};
 ghost use Rattle.forms.specs.Says.{ROOM};
 ghost use Rattle.desk.specs.Line.{trimmed, RequestLine, Writes, LineAnswered};
+ghost use Rattle.text.specs.Page.{contents};
 
 use desk_requests::answer_request;
 use text::{Full, Page};
 
 // A page that has not room for the longest answer is left as it was.
 pub fn answer_line(line: &[u8], page: &mut Page<'_>) -> Result<(), Full>
-    ensures { LineAnswered line.now page.old page.new result }
+    ensures { LineAnswered line.now (contents page.old) (contents page.new) result }
 {
     if page.room() < 8192 {
         return Err(Full);
@@ -38,8 +39,8 @@ fn trimmed(line: &[u8]) -> &[u8]
 }
 
 fn put_request(line: &[u8], page: &mut Page<'_>) -> Result<(), Full>
-    requires { ROOM ≤ length page.old.rest }
-    ensures { IsOk result × Writes (RequestLine (words line.now)) page.old page.new }
+    requires { ROOM ≤ length (contents page.old).rest }
+    ensures { IsOk result × Writes (RequestLine (words line.now)) (contents page.old) (contents page.new) }
 {
     answer_request(line, page)?;
     page.put_byte(b'\n')

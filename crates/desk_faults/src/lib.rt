@@ -5,13 +5,14 @@ ghost use Rattle.std.specs.Prelude.{◌≡◌};
 ghost use Rattle.text.specs.Put.{InRoom};
 ghost use Rattle.forms.specs.Says.{Said};
 ghost use Rattle.desk_faults.specs.Complaint.{complaint, wrong};
+ghost use Rattle.text.specs.Page.{contents};
 
 use forms::put_form;
 use shapes::{BadWord, Fault};
 use text::{Full, Page};
 
 pub fn put_fault(bad: BadWord, page: &mut Page<'_>) -> Result<(), Full>
-    ensures { InRoom 100 (Said 100 (complaint bad.word bad.fault)) page.old page.new result }
+    ensures { InRoom 100 (Said 100 (complaint bad.word bad.fault)) (contents page.old) (contents page.new) result }
 {
     if page.room() < 100 {
         return Err(Full);

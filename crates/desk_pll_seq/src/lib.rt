@@ -8,6 +8,7 @@ ghost use Rattle.forms.specs.Says.{Said};
 ghost use Rattle.pll_seq.specs.Record.{rows, number_of, ending, Room};
 ghost use Rattle.c_pll_seq.specs.Ran.{end_number};
 ghost use Rattle.desk_pll_seq.specs.Printed.{access, accesses, ended, listed, firsts};
+ghost use Rattle.text.specs.Page.{contents};
 
 use forms::put_form;
 use pll_seq::{End, Kind, Ran};
@@ -24,8 +25,8 @@ fn put_run(
     page: &mut Page<'_>,
 ) -> Result<(), Full>
     requires room { Room ran.accesses (rows kinds.now numbers.now values.now) }
-    requires n_bound { (ran.accesses ≤ 166) × (4000 ≤ length page.old.rest) }
-    ensures { IsOk result × Said 4000 (accesses (firsts ran.accesses (rows kinds.now numbers.now values.now)) ++ ended (end_number (ending ran.end))) page.old page.new }
+    requires n_bound { (ran.accesses ≤ 166) × (4000 ≤ length (contents page.old).rest) }
+    ensures { IsOk result × Said 4000 (accesses (firsts ran.accesses (rows kinds.now numbers.now values.now)) ++ ended (end_number (ending ran.end))) (contents page.old) (contents page.new) }
 {
     let n = ran.accesses;
     put_accesses(&kinds[..n], &numbers[..n], &values[..n], page)?;
@@ -38,8 +39,8 @@ fn put_accesses(
     values: &[u32],
     page: &mut Page<'_>,
 ) -> Result<(), Full>
-    requires { 23 * length (listed kinds.now numbers.now values.now) ≤ length page.old.rest }
-    ensures { IsOk result × Said (23 * length (listed kinds.now numbers.now values.now)) (accesses (listed kinds.now numbers.now values.now)) page.old page.new }
+    requires { 23 * length (listed kinds.now numbers.now values.now) ≤ length (contents page.old).rest }
+    ensures { IsOk result × Said (23 * length (listed kinds.now numbers.now values.now)) (accesses (listed kinds.now numbers.now values.now)) (contents page.old) (contents page.new) }
 {
     for ((kind, number), value) in kinds.iter().zip(numbers).zip(values) {
         put_access(Kind::from(*kind), *number, *value, page)?;
@@ -48,8 +49,8 @@ fn put_accesses(
 }
 
 fn put_access(kind: Kind, number: u32, value: u32, page: &mut Page<'_>) -> Result<(), Full>
-    requires { 23 ≤ length page.old.rest }
-    ensures { IsOk result × Said 23 (access (record { kind = number_of kind; number = number; value = value })) page.old page.new }
+    requires { 23 ≤ length (contents page.old).rest }
+    ensures { IsOk result × Said 23 (access (record { kind = number_of kind; number = number; value = value })) (contents page.old) (contents page.new) }
 {
     let words = [number, value];
     match kind {
@@ -59,8 +60,8 @@ fn put_access(kind: Kind, number: u32, value: u32, page: &mut Page<'_>) -> Resul
 }
 
 fn put_end(end: End, page: &mut Page<'_>) -> Result<(), Full>
-    requires { 20 ≤ length page.old.rest }
-    ensures { IsOk result × Said 20 (ended (end_number (ending end))) page.old page.new }
+    requires { 20 ≤ length (contents page.old).rest }
+    ensures { IsOk result × Said 20 (ended (end_number (ending end))) (contents page.old) (contents page.new) }
 {
     let number = [Refusal::LockTimeout.number()];
     match end {

@@ -3,6 +3,7 @@ ghost use Rattle.std.specs.Prelude.{◌≡◌, ◌≤◌, IsOk, length};
 ghost use Rattle.text.specs.Put.{InRoom};
 ghost use Rattle.forms.specs.Says.{ROOM, Said};
 ghost use Rattle.desk_pll_seq.specs.Request.{plan_of, host_words, run_text};
+ghost use Rattle.text.specs.Page.{contents};
 
 use crate::put_run;
 use c_pll_seq::run_of;
@@ -13,7 +14,7 @@ use registers::word;
 use text::{Full, Page};
 
 pub fn put_pll_seq(n: &[u32], page: &mut Page<'_>) -> Result<(), Full>
-    ensures { InRoom ROOM (Said 4000 (run_text (plan_of n.now) (host_words n.now))) page.old page.new result }
+    ensures { InRoom ROOM (Said 4000 (run_text (plan_of n.now) (host_words n.now))) (contents page.old) (contents page.new) result }
 {
     if page.room() < 8192 {
         return Err(Full);
@@ -47,8 +48,8 @@ fn host_words(n: &[u32]) -> &[u32]
 // A read a word and six writes at most: the rows have room for the run. They are fixed arrays, since there is no heap, and three, as the run
 // wants them.
 fn put_plan(plan: Plan, reads: &[u32], page: &mut Page<'_>) -> Result<(), Full>
-    requires { (length reads.now ≤ 160) × (4000 ≤ length page.old.rest) }
-    ensures { IsOk result × Said 4000 (run_text plan reads.now) page.old page.new }
+    requires { (length reads.now ≤ 160) × (4000 ≤ length (contents page.old).rest) }
+    ensures { IsOk result × Said 4000 (run_text plan reads.now) (contents page.old) (contents page.new) }
 {
     let mut kinds = [0u32; 166];
     let mut numbers = [0u32; 166];

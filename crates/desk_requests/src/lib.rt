@@ -10,6 +10,7 @@ ghost use Rattle.text.specs.Put.{InRoom};
 ghost use Rattle.forms.specs.Says.{ROOM, Says};
 ghost use Rattle.desk_requests.specs.Answer.{Answer};
 ghost use Rattle.desk_requests.specs.Found.{Short, says_of, Understood};
+ghost use Rattle.text.specs.Page.{contents};
 
 use arrayvec::ArrayVec;
 use desk_faults::put_fault;
@@ -23,7 +24,7 @@ use text::{Full, Page};
 use words::first_word;
 
 pub fn answer_request(line: &[u8], page: &mut Page<'_>) -> Result<(), Full>
-    ensures { InRoom ROOM (Says (Answer (words line.now))) page.old page.new result }
+    ensures { InRoom ROOM (Says (Answer (words line.now))) (contents page.old) (contents page.new) result }
 {
     if page.room() < 8192 {
         return Err(Full);
@@ -47,8 +48,8 @@ fn read_request(line: &[u8], numbers: &mut ArrayVec<u32, 160>) -> Result<Saying,
 
 impl Saying {
     fn put(self, n: &[u32], page: &mut Page<'_>) -> Result<(), Full>
-        requires { Short self × (ROOM ≤ length page.old.rest) }
-        ensures { IsOk result × Says (says_of self n.now) page.old page.new }
+        requires { Short self × (ROOM ≤ length (contents page.old).rest) }
+        ensures { IsOk result × Says (says_of self n.now) (contents page.old) (contents page.new) }
     {
         match self {
             Saying::UartList => put_uart_list(word(n, 0), word(n, 1), page),

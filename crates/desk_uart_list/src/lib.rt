@@ -6,6 +6,7 @@ ghost use Rattle.std.specs.Prelude.{◌≤◌, IsOk, length};
 ghost use Rattle.text.specs.Put.{InRoom};
 ghost use Rattle.forms.specs.Says.{ROOM, Said, Says};
 ghost use Rattle.desk_uart_list.specs.List.{entry_of, Prints, Listed};
+ghost use Rattle.text.specs.Page.{contents};
 
 use forms::put_form;
 use text::{Full, Page};
@@ -13,7 +14,7 @@ use uart_candidate::{BaudDivisors, Wanted};
 use uart_list::viable_count;
 
 pub fn put_uart_list(reference: u32, baud: u32, page: &mut Page<'_>) -> Result<(), Full>
-    ensures { InRoom ROOM (Says (Listed reference baud)) page.old page.new result }
+    ensures { InRoom ROOM (Says (Listed reference baud)) (contents page.old) (contents page.new) result }
 {
     if page.room() < 8192 {
         return Err(Full);
@@ -25,8 +26,8 @@ pub fn put_uart_list(reference: u32, baud: u32, page: &mut Page<'_>) -> Result<(
 }
 
 fn put_pairs(wanted: Wanted, page: &mut Page<'_>) -> Result<(), Full>
-    requires { 7900 ≤ length page.old.rest }
-    ensures { IsOk result × Prints wanted.reference wanted.target page.old page.new }
+    requires { 7900 ≤ length (contents page.old).rest }
+    ensures { IsOk result × Prints wanted.reference wanted.target (contents page.old) (contents page.new) }
 {
     for bdiv in uart_candidate::FIRST..=uart_candidate::LAST {
         if let Some(pair) = wanted.viable(bdiv) {
@@ -37,8 +38,8 @@ fn put_pairs(wanted: Wanted, page: &mut Page<'_>) -> Result<(), Full>
 }
 
 fn put_pair(pair: BaudDivisors, page: &mut Page<'_>) -> Result<(), Full>
-    requires { 31 ≤ length page.old.rest }
-    ensures { IsOk result × Said 31 (entry_of pair) page.old page.new }
+    requires { 31 ≤ length (contents page.old).rest }
+    ensures { IsOk result × Said 31 (entry_of pair) (contents page.old) (contents page.new) }
 {
     let words = [pair.cd as u32, pair.bdiv as u32, float32::bits(pair.error)];
     put_form(b" #:#:$", &words, page)

@@ -2,13 +2,17 @@
 -- Assumes nothing.
 use mathlib.Core.Path.{◌≡◌, ◌∙◌, sym, ap, subst, refl}
 use Prim.Native.Nat.{ℕ, ◌+◌, ◌-◌, ◌*◌, ◌/◌, ◌%◌, ◌^◌, ◌≤◌, ◌<◌, min}
-use native.Mathlib.Nat.{mod-lt, mod-eq_of_lt, zero-mod, div-eq_of_lt, lt_of_lt_of_le, lt_of_le_of_lt, le_of_lt, sub-add_cancel, min-eq_left, min-eq_right}
+use native.Mathlib.Nat.{mod-lt, mod-eq_of_lt, zero-mod, one-mul, div-eq_of_lt, lt_of_lt_of_le, lt_of_le_of_lt, le_of_lt, sub-add_cancel, min-eq_left, min-eq_right}
 use native.Mathlib.Decide.{dec_le}
 use native.Mathlib.Omega.{arith}
-use lib.Pow.{pow_pos, pow_mono, field, mod-mod-pow, shl-shr, shr_le, shr_lt, shl_exact}
+use lib.Pow.{pow_pos, pow_mono, pow-lt, field, mod-mod-pow, shl-shr, shr_le, shr_lt, shl_exact}
 use Rattle.fields.specs.declared.Field.{Field}
 use Rattle.fields.specs.Word.{read_field, set_field, inside}
 use Rattle.fields.proofs.Laws.{parts, set_lt, read_lt, only}
+
+-- 1 << k
+pub one_shl : (k : ℕ) → k < 32 → 1 * 2 ^ k % 2 ^ 32 ≡ 2 ^ k
+one_shl k h = rw one-mul (mod-eq_of_lt (pow-lt h))
 
 module _ (word : ℕ) (f : Field) (w : word < 2 ^ 32) where
   -- past the word there are zeros

@@ -1,6 +1,6 @@
 -- A rounded fraction that is at most b, where b is itself an f32, is at most b: so it is finite.
-use Rattle.std.proofs.Common.{ℕ, zero, suc, ◌+◌, ◌*◌, ◌^◌, ◌<◌, ◌≤◌, Bool, true, false, cond, T, ltb, sym, refl, ap, ◌∙◌, true≢false, le_trans, le_of_eq, lt_of_lt_of_le, mul-le-mul_right, zero-lt-suc, mul_assoc, mul_comm, mul-le-mul, mul-pos, mul-one, mul_right_comm, le_of_mul-le-mul_right, arith, lt→ltb}
-use lib.Ieee.{Float, nan, inf, fin, Format, binary32, prec, emax, low, up, odd, units, round, le, div, sub, of_int}
+use Rattle.std.proofs.Common.{ℕ, zero, suc, ◌+◌, ◌*◌, ◌^◌, ◌<◌, ◌≤◌, Bool, true, false, cond, T, ltb, pos, sym, refl, ap, ◌∙◌, true≢false, le_trans, le_of_eq, lt_of_lt_of_le, lt_of_le_of_lt, mul-le-mul_right, zero-lt-suc, mul_assoc, mul_comm, mul-le-mul, mul-lt-mul_of_pos_right, mul-pos, mul-one, mul_right_comm, le_of_mul-le-mul_right, arith, lit<, lt→ltb}
+use lib.Ieee.{Float, nan, inf, fin, Format, binary32, prec, emax, low, up, odd, units, down, round, lt, le, div, sub, of_int}
 use lib.Ieee.Exact.{HasValue}
 use lib.Ieee.Fits.{round_is, down_pos}
 use lib.Ieee.Order.{round_mono}
@@ -111,3 +111,14 @@ distance_up_to x y u v = rw (distance binary32 x y u.is_plain v.is_plain)
     (up_to LIMIT _ _ limit (mul-pos (den_pos x) (den_pos y))
     (closer _ _ _ (le_trans (mul-le-mul_right (den y) u.within) (le_of_eq (mul_assoc LIMIT (den x) (den y))))
     (le_trans (mul-le-mul_right (den x) v.within) (le_of_eq (mul_right_comm LIMIT (den y) (den x) ∙ mul_assoc LIMIT (den x) (den y))))))
+
+-- ---- and so below the largest f32
+abbrev pub MAX : Float
+MAX = fin false 16777215 (pos 104)
+
+pub below_max : (x : Float) → UpTo LIMIT x → T (lt x MAX)
+unfolding lt
+below_max (fin false m e) u = lt→ltb (m * up e * 1) (16777215 * 2 ^ 104 * down e) (lt_of_le_of_lt (le_of_eq (mul-one (m * up e))) (lt_of_le_of_lt u.within (mul-lt-mul_of_pos_right (lit< tt) (down_pos e))))
+below_max nan u = absurd u.is_plain
+below_max (inf s) u = absurd u.is_plain
+below_max (fin true m e) u = absurd u.is_plain

@@ -14,6 +14,12 @@ plain (inf s) = false
 plain (fin true m e) = false
 plain (fin false m e) = true
 
+pub positive_plain : (x : Float) → T (positive x) → T (plain x)
+positive_plain (fin false m e) p = tt
+positive_plain nan p = elim p [ ]
+positive_plain (inf _) p = elim p [ ]
+positive_plain (fin true m e) p = elim p [ ]
+
 -- how far a and b are apart
 abbrev pub apart : ℕ → ℕ → ℕ
 apart a b = a - b + (b - a)

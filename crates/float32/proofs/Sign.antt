@@ -1,8 +1,16 @@
 -- A float's sign is the highest bit of its pattern: without it the pattern is that of the absolute value.
-use Rattle.std.proofs.Common.{◌≡◌, ℕ, zero, suc, ◌+◌, ◌*◌, ◌%◌, ◌<◌, true, false, not, T, ℤ, sym, refl, true≢false, arith}
-use lib.Ieee.{Float, nan, inf, fin, binary32, fits, to_bits, of_bits, nan_bits, is_nan}
+use Rattle.std.proofs.Common.{◌≡◌, ℕ, zero, suc, ◌+◌, ◌*◌, ◌%◌, ◌<◌, true, false, not, T, ℤ, sym, refl, ◌∙◌, true≢false, arith}
+use lib.Ieee.{Float, nan, inf, fin, binary32, fits, to_bits, of_bits, nan_bits, is_nan, ne}
 use lib.Ieee.Bits.{of_bits-to_bits, to_bits-lt, nan_bits_is}
+use lib.Ieee.Compare.{nan_differs}
 use Rattle.float32.specs.Whole.{abs}
+
+-- what does not differ from itself is a number
+pub number : (x : Float) → ne x x ≡ false → T (not (is_nan x))
+unfolding is_nan
+number nan e = absurd (true≢false (sym nan_differs ∙ e))
+number (inf s) e = tt
+number (fin s m e) p = tt
 
 -- what is no number is its own absolute value, and has the one pattern
 pub none : (x : Float) → is_nan x ≡ true → x ≡ abs x

@@ -4,13 +4,14 @@ ghost use Rattle.bounds.specs.Within.{Within};
 ghost use Rattle.text.specs.Put.{InRoom};
 ghost use Rattle.forms.specs.Form.{kind_of, item, takes, width as width_of, printed, most};
 ghost use Rattle.forms.specs.Says.{Said};
+ghost use Rattle.text.specs.Page.{contents};
 
 use crate::kind::Kind;
 use std::slice::Iter;
 use text::{Full, Page};
 
 pub fn put_form(form: &[u8], words: &[u32], page: &mut Page<'_>) -> Result<(), Full>
-    ensures { InRoom (most form.now) (Said (most form.now) (printed form.now words.now)) page.old page.new result }
+    ensures { InRoom (most form.now) (Said (most form.now) (printed form.now words.now)) (contents page.old) (contents page.new) result }
 {
     fits(form, page.room())?;
     let mut left = words.iter();
@@ -33,8 +34,8 @@ pub fn fits(form: &[u8], room: usize) -> Result<(), Full>
 
 // What a byte of the form stands for, with the words that it takes.
 fn put_item(byte: u8, words: &mut Iter<'_, u32>, page: &mut Page<'_>) -> Result<(), Full>
-    requires { width_of (kind_of byte) ≤ length page.old.rest }
-    ensures text { IsOk result × Said (width_of (kind_of byte)) (item (kind_of byte) byte (get_or (iter_rest words.old) 0 0) (get_or (iter_rest words.old) 1 0)) page.old page.new }
+    requires { width_of (kind_of byte) ≤ length (contents page.old).rest }
+    ensures text { IsOk result × Said (width_of (kind_of byte)) (item (kind_of byte) byte (get_or (iter_rest words.old) 0 0) (get_or (iter_rest words.old) 1 0)) (contents page.old) (contents page.new) }
     ensures rest { iter_rest words.new ≡ drop (takes (kind_of byte)) (iter_rest words.old) }
 {
     match Kind::from(byte) {

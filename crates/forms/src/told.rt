@@ -3,6 +3,7 @@ ghost use Rattle.refusals.specs.Refusal.{told as told_of, number_of, carried_by,
 ghost use Rattle.text.specs.Put.{InRoom};
 ghost use Rattle.forms.specs.Says.{Said};
 ghost use Rattle.forms.specs.Told.{refusal_text, told_text, told_most};
+ghost use Rattle.text.specs.Page.{contents};
 
 use crate::form::fits;
 use crate::put_form;
@@ -16,7 +17,7 @@ pub fn put_told(
     words: &[u32],
     page: &mut Page<'_>,
 ) -> Result<(), Full>
-    ensures { InRoom (told_most form.now) (Said (told_most form.now) (told_text form.now (told_of told) words.now)) page.old page.new result }
+    ensures { InRoom (told_most form.now) (Said (told_most form.now) (told_text form.now (told_of told) words.now)) (contents page.old) (contents page.new) result }
 {
     fits(form, page.room())?;
     if page.room() < 40 {
@@ -29,8 +30,8 @@ pub fn put_told(
 }
 
 fn put_refusal(refusal: Refusal, page: &mut Page<'_>) -> Result<(), Full>
-    requires { 40 ≤ length page.old.rest }
-    ensures { IsOk result × Said 40 (refusal_text (number_of refusal) (listed (carried_by refusal))) page.old page.new }
+    requires { 40 ≤ length (contents page.old).rest }
+    ensures { IsOk result × Said 40 (refusal_text (number_of refusal) (listed (carried_by refusal))) (contents page.old) (contents page.new) }
 {
     let number = refusal.number();
     match refusal.carried() {

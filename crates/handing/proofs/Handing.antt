@@ -66,6 +66,15 @@ pub given_by : {Tells Wider : Told (List ℕ) → Type 0} {before after : List �
 given_by wider (Given.refusal c t) = Given.refusal c (wider _ t)
 given_by wider (Given.answer t) = Given.answer (wider _ t)
 
+widened : {A : Type 0} {words : A → List ℕ} {Right Wider : Told A → Type 0} → ((t : Told A) → Right t → Wider t) → (t : Told (List ℕ)) → InWords words Right t → InWords words Wider t
+widened wider _ (InWords.answer right) = InWords.answer (wider _ right)
+widened wider _ (InWords.refusal right) = InWords.refusal (wider _ right)
+
+-- and so for what is handed back
+pub handed_by : {A : Type 0} {words : A → List ℕ} {Right Wider : Told A → Type 0} {room : ℕ} {before after : List ℕ} {r : ℕ} → ((t : Told A) → Right t → Wider t) →
+    Handed room (InWords words Right) before r after → Handed room (InWords words Wider) before r after
+handed_by wider h = record { fits = λ k. given_by (widened wider) (h.fits k); full = h.full }
+
 -- 0 is no refusal's number
 no_number : {n : ℕ} → n ≡ 0 → T (carries_nothing n) → ⊥
 no_number e t = subst (λ (k : ℕ). T (carries_nothing k)) e t

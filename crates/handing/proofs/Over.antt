@@ -6,6 +6,7 @@ use native.Mathlib.Nat.{le_of_suc-le-suc, not-suc-le-zero}
 use native.Mathlib.Numerals.{add-one}
 use native.Mathlib.Omega.{arith}
 use lib.ListN.{length, length-set, take, drop, set, get_or}
+use lib.Seq.{take-length}
 
 module _ {A : Type 0} where
   -- the first i words overwritten
@@ -41,3 +42,8 @@ module _ {A : Type 0} where
           ap₂ (λ (l : List A) (w : A). set l i w) c.copied e
           ∙ over_more d i words row h (omega (arith, c.room));
     }
+
+    pub all_copied : (i < length words → ⊥) → out ≡ words ++ drop (length words) row
+    all_copied h =
+        let all : i ≡ length words = omega (arith, c.bound) in
+        c.copied ∙ ap (λ (n : ℕ). over n words row) all ∙ ap (λ (l : List A). l ++ drop (length words) row) (take-length words)

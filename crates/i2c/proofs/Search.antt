@@ -4,18 +4,19 @@
 use mathlib.Core.Path.{◌≡◌, ◌∙◌, sym, ap, subst, fun_ext}
 use mathlib.Core.Logic.{⊎_elim}
 use Prim.Native.Nat.{ℕ, suc, ◌*◌, ◌/◌, ◌≤◌, ◌<◌}
-use native.Mathlib.Nat.{mul-le-mul_left, suc-mul, mul-suc, mul_assoc, div-mul-le_self, le-div_iff_mul-le, div-div-eq-div-mul}
+use native.Mathlib.Nat.{mul-le-mul_left, suc-mul, mul-suc, mul_assoc, one-mul, div-one, div-mul-le_self, le-div_iff_mul-le, div-div-eq-div-mul}
 use native.Mathlib.Omega.{arith}
 use Rattle.refusals.specs.Told.{answered}
 use Rattle.nearness.specs.Distance.{distance, InRange}
 use Rattle.nearness.specs.Found.{AtTurn, Found}
 use Rattle.nearness.proofs.Distance.{over, le_or_lt}
+use Rattle.nearness.proofs.Falling.{Turn, row_turn}
 use Rattle.i2c.specs.Divisors.{calculation, clock, config, Best, Right}
 use Rattle.i2c.specs.declared.Speed.{Speed}
 use Rattle.i2c.specs.declared.Speed.TheVariants.{Normal100kHz, HighSpeed400KHz}
 
 -- of the second divisors that are equally near b is the smallest
-abbrev Smallest : (ℕ → ℕ) → ℕ → ℕ → Type 0
+abbrev pub Smallest : (ℕ → ℕ) → ℕ → ℕ → Type 0
 Smallest value target b = (e : ℕ) → InRange 64 e → distance (value e) target ≡ distance (value b) target → b ≤ e
 
 module _ (x : ℕ) {target b diff : ℕ} (high : 64 ≤ target) (row : AtTurn (λ e. x / e) target 64 b diff) where
@@ -26,7 +27,7 @@ module _ (x : ℕ) {target b diff : ℕ} (high : 64 ≤ target) (row : AtTurn (�
       (le-div_iff_mul-le {x = suc v} {y = x} one).1
       (omega (arith, row.nearest.second_range.to_largest, mul-le-mul_left v l, mul-suc v e, suc-mul v e, div-mul-le_self x b))
 
-  smallest : Smallest (λ e. x / e) target b
+  pub smallest : Smallest (λ e. x / e) target b
   smallest e r same =
       ⊎_elim
       (λ reaches. ⊎_elim (λ le. le)
@@ -36,6 +37,12 @@ module _ (x : ℕ) {target b diff : ℕ} (high : 64 ≤ target) (row : AtTurn (�
       (λ below. ⊎_elim (λ too_far. absurd (omega (arith, row.nearer below e r too_far))) (λ too. row.first below e r too)
       (le_or_lt target (x / e)))
       (le_or_lt target (x / b))
+
+-- a quotient of 0 misses the target at once
+pub missed_at_once : (x target : ℕ) → 64 ≤ target → x / target ≡ 0 → x < target
+missed_at_once x target high e =
+    let turn : Turn (λ e. x / e) target (x / target) = simp (one-mul, div-one) at (row_turn x {c = 1} (omega arith) {target = target} (omega arith)) in
+    rw (← (div-one x)) (turn.missed 1 (omega arith))
 
 module _ (input : ℕ) where
   twice : (a : ℕ) → clock input a ≡ (λ e. input / (22 * a) / e)

@@ -4,7 +4,7 @@
 use Prim.Native.Nat.{ℕ, ◌+◌, ◌-◌, ◌*◌, ◌/◌, ◌≤◌, ◌<◌}
 use mathlib.Core.Path.{◌≡◌, ◌∙◌, sym, subst}
 use mathlib.Core.Logic.{⊎_elim}
-use native.Mathlib.Nat.{mul-one, mul-add}
+use native.Mathlib.Nat.{mul-one, mul-add, mul-pos, le_trans, le-div_iff_mul-le}
 use native.Mathlib.Omega.{arith}
 use Rattle.nearness.specs.Distance.{distance, InRange}
 use Rattle.nearness.specs.Found.{AtTurn}
@@ -65,11 +65,20 @@ module _ (s : Wanted) {d0 : ℕ} (some_first : 0 < d0) where
   turn : Turn value s.target (s.ratio / d0)
   turn = subst (λ n. Turn value s.target (n / d0)) (sym s.is_ratio) (row_turn s.reference some_first s.some_target)
 
-  -- up to the ideal one the target is reached
+  pub some_product : {d1 : ℕ} → 1 ≤ d1 → 0 < d0 * d1
+  some_product one = mul-pos some_first one
+
+  -- up to the ideal one the target is reached, so that the product is within the reference
   pub reaches : {d1 : ℕ} → 1 ≤ d1 → d1 ≤ s.ratio / d0 → s.target ≤ s.reference / (d0 * d1)
   reaches {d1} one le = turn.reached d1 one le
 
+  pub within : {d1 : ℕ} → 1 ≤ d1 → d1 ≤ s.ratio / d0 → d0 * d1 ≤ s.reference
+  within {d1} one le = omega (arith, (le-div_iff_mul-le (some_product one)).0 (le_trans s.some_target (reaches one le)))
+
   -- where no divisor reaches the target
+  pub low : s.ratio / d0 ≡ 0 → s.reference / d0 < s.target
+  low none = rw mul-one at (turn.missed 1 (omega arith))
+
   pub smallest : s.ratio / d0 ≡ 0 → AtTurn value s.target s.seconds 1 (s.target - s.reference / d0)
   smallest none =
       subst (λ n. AtTurn value s.target s.seconds 1 (s.target - s.reference / n)) (mul-one d0)

@@ -68,7 +68,7 @@ module _ {value : ℕ → ℕ → ℕ} {target firsts seconds : ℕ} where
           }
 
     -- the search may stop where no later row is nearer
-    stop : ((e0 e1 : ℕ) → next ≤ e0 → InRange firsts e0 → InRange seconds e1 → diff ≤ distance (value e0 e1) target)
+    pub stop : ((e0 e1 : ℕ) → next ≤ e0 → InRange firsts e0 → InRange seconds e1 → diff ≤ distance (value e0 e1) target)
         → Found value target firsts seconds d0 d1
     stop rest =
         record {

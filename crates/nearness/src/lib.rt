@@ -30,7 +30,8 @@ pub struct Wanted {
 
 impl Wanted {
     // The two divisors, the first of 1 to firsts and the second of 1 to seconds, whose frequency, the reference over both, is nearest the
-    // target.
+    // target. In each caller by itself: I2C's four rows of 64 are unrolled so.
+    #[inline(always)]
     pub fn nearest_pair(self) -> (u32, u32)
         ensures { Found (λ d0 d1. self.reference / (d0 * d1)) self.target self.firsts self.seconds result.0 result.1 }
     {
@@ -39,6 +40,7 @@ impl Wanted {
     }
 
     // Row by row, the nearest so far is kept, so that the first of equally near rows stays. After an exact hit none is nearer.
+    #[inline(always)]
     fn nearest(self) -> Candidate
         ensures { Found (λ d0 d1. self.reference / (d0 * d1)) self.target self.firsts self.seconds result.div0 result.div1 }
     {

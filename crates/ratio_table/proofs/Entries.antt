@@ -7,10 +7,11 @@ use native.Mathlib.Omega.{arith}
 use lib.Dec.{lit≤}
 use lib.ListN.{get_or, length}
 use lib.Seq.{ext_get_or}
+use Rattle.ratio_table.specs.declared.Above.{Above}
 use Rattle.ratio_table.specs.declared.Ratio.{Ratio}
 use Rattle.ratio_table.specs.declared.Undivided.{Undivided}
 use Rattle.ratio_table.specs.Lowest.{ratio}
-use Rattle.ratio_table.specs.Table.{Above, Between, Compared, Mirrored, Ratios, Runs, Six, Square, entry, mirror, mirrored}
+use Rattle.ratio_table.specs.Table.{Between, Compared, Mirrored, Ratios, Runs, Six, Square, entry, mirror, mirrored}
 use Rattle.ratio_table.proofs.Lowest.{itself, of_reduced, turned}
 
 -- what holds of 0, 1, 2 and 3 holds of every number below 4

@@ -3,10 +3,11 @@ use Prim.Native.Nat.{ℕ, ◌*◌, ◌<◌}
 use mathlib.Core.Path.{◌≡◌, sym, ap, ◌∙◌}
 use mathlib.Core.List.{List}
 use native.Mathlib.Nat.{mul_comm, mul-mul-mul_comm, mul-pos}
+use Rattle.ratio_table.specs.declared.Above.{Above}
 use Rattle.ratio_table.specs.declared.Ratio.{Ratio}
 use Rattle.ratio_table.specs.declared.Undivided.{Undivided}
 use Rattle.ratio_table.specs.Lowest.{ratio, inverse}
-use Rattle.ratio_table.specs.Table.{Above, Between, Mirrored, Ratios, Runs, Six, entry, mirror, mirrored, over}
+use Rattle.ratio_table.specs.Table.{Between, Mirrored, Ratios, Runs, Six, entry, mirror, mirrored, over}
 use Rattle.ratio_table.proofs.Entries.{same_table}
 use Rattle.ratio_table.proofs.Lowest.{cancelled, crossed, itself, no_zero, one_ratio, one_reduced, times, turned}
 

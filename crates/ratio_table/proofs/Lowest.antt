@@ -1,13 +1,35 @@
 -- The laws of a ratio in lowest terms. Assumes nothing.
-use Prim.Native.Nat.{ℕ, ◌+◌, ◌*◌, ◌/◌, ◌<◌, ◌≤◌, ◌∣◌}
+use Prim.Native.Nat.{ℕ, ◌+◌, ◌*◌, ◌/◌, ◌^◌, ◌<◌, ◌≤◌, ◌∣◌}
 use mathlib.Core.Path.{◌≡◌, refl, sym, ap, ap₂, subst, ◌∙◌}
 use native.Mathlib.Decide.{dec_le}
-use native.Mathlib.Nat.{div-mul_cancel, dvd_antisymm, dvd-mul_right, dvd_refl, dvd-zero, eq_of_mul-eq-mul_left, eq_of_mul-eq-mul_right, eq-one_of_dvd-one, le_of_dvd, mul_assoc, mul_comm, mul_left_comm, mul-mul-mul_comm, mul-pos, pos_of_ne-zero, zero-mul}
+use native.Mathlib.Nat.{
+  div-mul_cancel,
+  dvd_antisymm,
+  dvd-mul_right,
+  dvd_refl,
+  dvd-zero,
+  eq_of_mul-eq-mul_left,
+  eq_of_mul-eq-mul_right,
+  eq-one_of_dvd-one,
+  le_of_dvd,
+  mul_assoc,
+  mul_comm,
+  mul-le-mul,
+  mul_left_comm,
+  mul-mul-mul_comm,
+  mul-pos,
+  pos_of_ne-zero,
+  zero-mul,
+}
 use native.Mathlib.Omega.{arith}
 use Rattle.gcd.specs.Common.{Greatest, Coprime}
 use Rattle.gcd.proofs.Laws.{divides_other, left_over}
 use Rattle.ratio_table.specs.declared.Ratio.{Ratio}
 use Rattle.ratio_table.specs.Lowest.{Lowest, Reduced, inverse, no_terms, ratio, to_lowest}
+
+-- a product of two numbers of 32 bits has 64
+pub wide : {a b : ℕ} → a < 2 ^ 32 → b < 2 ^ 32 → a * b < 2 ^ 64
+wide {a} {b} p q = omega (arith, mul-le-mul {n₁ = a} {m₁ = b} {n₂ = 4294967295} {m₂ = 4294967295} (omega arith) (omega arith))
 
 -- both numbers over their greatest common divisor
 pub reduced : {x y g : ℕ} → Greatest x y g → 0 < g → Lowest x y (ratio (x / g) (y / g))

@@ -1,5 +1,6 @@
 -- Four clocks and the table of their ratios: row i, column j is clock i to clock j.
 use Rattle.std.specs.Prelude.{ℕ, ◌*◌, ◌<◌, ◌≡◌, List, [], ◌∷◌, get_or, length, replicate}
+use Rattle.ratio_table.specs.declared.Above.{Above}
 use Rattle.ratio_table.specs.declared.Ratio.{Ratio}
 use Rattle.ratio_table.specs.declared.Undivided.{Undivided}
 use Rattle.ratio_table.specs.Lowest.{Lowest, Reduced, ratio, inverse}
@@ -32,16 +33,7 @@ pub record Ratios (clock : ℕ → Undivided) (table : List (List Ratio)) : Type
 abbrev pub none : List (List Ratio)
 none = replicate 4 (replicate 4 (ratio 0 0))
 
--- the six ratios above a table's diagonal
-pub record Above : Type 0 where
-  pub r01 : Ratio
-  pub r02 : Ratio
-  pub r03 : Ratio
-  pub r12 : Ratio
-  pub r13 : Ratio
-  pub r23 : Ratio
-
--- a table by its diagonal and these; below it they are turned round
+-- a table by its diagonal and the six ratios above it; below it they are turned round
 abbrev pub mirror : Ratio → Above → List (List Ratio)
 mirror one a =
     (one ∷ a.r01 ∷ a.r02 ∷ a.r03 ∷ [])

@@ -3,8 +3,8 @@
 #![tactic(auto)]
 
 ghost use Rattle.std.specs.Prelude.{◌≡◌};
-ghost use Rattle.ratio_table.specs.Lowest.{Reduced, inverse as inverse_of};
-ghost use Rattle.ratio_table.specs.Table.{Compared, Mirrored, none};
+ghost use Rattle.ratio_table.specs.Lowest.{Reduced, ratio, inverse as inverse_of};
+ghost use Rattle.ratio_table.specs.Table.{Compared, Mirrored, Six, mirror, none};
 
 use gcd::gcd;
 
@@ -62,18 +62,52 @@ impl Undivided {
     }
 }
 
-// The table of four clocks: 1 to 1 on the diagonal, each two of them compared above it, and below it turned round.
+// The six ratios above a table's diagonal.
+#[derive(Clone, Copy, PartialEq, Eq)]
+pub struct Above {
+    pub r01: Ratio,
+    pub r02: Ratio,
+    pub r03: Ratio,
+    pub r12: Ratio,
+    pub r13: Ratio,
+    pub r23: Ratio,
+}
+
+impl Above {
+    // The whole table: 1 to 1 on the diagonal, and below it each ratio turned round.
+    pub fn table(self) -> [[Ratio; 4]; 4]
+        ensures { result ≡ mirror (ratio 1 1) self }
+    {
+        let (ab, ac, ad) = (self.r01, self.r02, self.r03);
+        let (bc, bd, cd) = (self.r12, self.r13, self.r23);
+        [
+            [Ratio::ONE, ab, ac, ad],
+            [ab.inverse(), Ratio::ONE, bc, bd],
+            [ac.inverse(), bc.inverse(), Ratio::ONE, cd],
+            [ad.inverse(), bd.inverse(), cd.inverse(), Ratio::ONE],
+        ]
+    }
+}
+
+// Each two of four clocks.
+pub fn compared(a: Undivided, b: Undivided, c: Undivided, d: Undivided) -> Above
+    ensures { Six a b c d result }
+{
+    Above {
+        r01: a.to(b),
+        r02: a.to(c),
+        r03: a.to(d),
+        r12: b.to(c),
+        r13: b.to(d),
+        r23: c.to(d),
+    }
+}
+
+// The table of four clocks: each two of them compared.
 pub fn table(a: Undivided, b: Undivided, c: Undivided, d: Undivided) -> [[Ratio; 4]; 4]
     ensures { Mirrored a b c d result }
 {
-    let (ab, ac, ad) = (a.to(b), a.to(c), a.to(d));
-    let (bc, bd, cd) = (b.to(c), b.to(d), c.to(d));
-    [
-        [Ratio::ONE, ab, ac, ad],
-        [ab.inverse(), Ratio::ONE, bc, bd],
-        [ac.inverse(), bc.inverse(), Ratio::ONE, cd],
-        [ad.inverse(), bd.inverse(), cd.inverse(), Ratio::ONE],
-    ]
+    compared(a, b, c, d).table()
 }
 
 // 0 to 0 everywhere, on the diagonal too.

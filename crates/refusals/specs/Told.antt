@@ -1,6 +1,5 @@
 -- What a call tells its caller, in document 01's words: an answer, or a refusal by its number with what it carries.
--- Each crate whose answer is an enum with refusals says by a definition `told` which of these each case of the enum is; its promises
--- speak of that.
+-- Each crate whose calls can refuse says by a definition `told` which of these each answer and each error is; its promises speak of that.
 use Rattle.std.specs.Prelude.{ℕ, List}
 
 pub data Told (A : Type 0) : Type 0 where

@@ -1,7 +1,7 @@
 -- How long the lines are at most, and how writers in a row come to them.
 use mathlib.Core.Path.{◌≡◌}
 use mathlib.Core.List.{List, [], ◌∷◌, ◌++◌}
-use Prim.Native.Nat.{ℕ, zero, suc, ◌+◌, ◌/◌, ◌≤◌}
+use Prim.Native.Nat.{ℕ, zero, suc, ◌+◌, ◌-◌, ◌/◌, ◌≤◌, ◌<◌}
 use native.Mathlib.Omega.{arith}
 use native.Mathlib.Nat.{le_refl}
 use native.Mathlib.Decide.{dec_lt}
@@ -55,6 +55,15 @@ pub led : (lead : Lead) {name : List ℕ} {before middle end after : Contents} (
     → Put name before middle q → Put (decimal lead.ticks) middle end r → IsOk o × Said 25 (line (bytes " at ") lead.at) end after
     → IsOk o × Said (length name + 45) (lead_line name lead) before after
 led lead {name} q r o h p d t = (t.0, within (length name + 20 + 25) (omega arith) (both (numbered lead.ticks q r (omega arith) p d) t.1))
+
+-- the difference, by which of the two is larger
+pub behind : (m n : ℕ) {Ended : Type 0} {before after : Contents} → m < n → Ended × Said 33 (line (bytes "difference -") (n - m)) before after
+    → Ended × Said 33 (difference_line m n) before after
+behind m n h p = rw (lt-ltb m n h) p
+
+pub not_behind : (m n : ℕ) {Ended : Type 0} {before after : Contents} → n ≤ m → Ended × Said 32 (line (bytes "difference ") (m - n)) before after
+    → Ended × Said 33 (difference_line m n) before after
+not_behind m n h p = rw (le-ltb m n h) (p.0, within 32 (lit≤ tt) p.1)
 
 -- the six lines
 pub reported : (s : Trace) {b₀ b₁ b₂ b₃ b₄ b₅ b₆ : Contents} →

@@ -4,6 +4,7 @@ ghost use Rattle.text.specs.Put.{InRoom};
 ghost use Rattle.forms.specs.Says.{Said};
 ghost use Rattle.replay.specs.declared.report.Fault.TheVariants.{TooLong};
 ghost use Rattle.replay.specs.Report.{line, lead_line, difference_line, report_of, REPORT, fault_of, FAULT};
+ghost use Rattle.text.specs.Page.{contents};
 
 use text::{Full, Page};
 use trace::{Lead, Trace, TraceError};
@@ -26,7 +27,7 @@ impl From<TraceError> for Fault {
 }
 
 pub fn put_report(trace: Trace, page: &mut Page<'_>) -> Result<(), Full>
-    ensures { InRoom REPORT (Said REPORT (report_of trace)) page.old page.new result }
+    ensures { InRoom REPORT (Said REPORT (report_of trace)) (contents page.old) (contents page.new) result }
 {
     if page.room() < 320 {
         return Err(Full);
@@ -40,7 +41,7 @@ pub fn put_report(trace: Trace, page: &mut Page<'_>) -> Result<(), Full>
 }
 
 pub fn put_fault(fault: Fault, page: &mut Page<'_>) -> Result<(), Full>
-    ensures { InRoom FAULT (Said FAULT (fault_of fault)) page.old page.new result }
+    ensures { InRoom FAULT (Said FAULT (fault_of fault)) (contents page.old) (contents page.new) result }
 {
     if page.room() < 80 {
         return Err(Full);
@@ -58,8 +59,8 @@ pub fn put_fault(fault: Fault, page: &mut Page<'_>) -> Result<(), Full>
 
 #[tactic(auto, using(crate::proofs::Printing::twenty))]
 fn put_line(name: &[u8], n: u64, page: &mut Page<'_>) -> Result<(), Full>
-    requires { length name.now + 21 ≤ length page.old.rest }
-    ensures { IsOk result × Said (length name.now + 21) (line name.now n) page.old page.new }
+    requires { length name.now + 21 ≤ length (contents page.old).rest }
+    ensures { IsOk result × Said (length name.now + 21) (line name.now n) (contents page.old) (contents page.new) }
 {
     page.put_bytes(name)?;
     page.put_decimal(n)?;
@@ -67,8 +68,8 @@ fn put_line(name: &[u8], n: u64, page: &mut Page<'_>) -> Result<(), Full>
 }
 
 fn put_difference(first: u64, second: u64, page: &mut Page<'_>) -> Result<(), Full>
-    requires { 33 ≤ length page.old.rest }
-    ensures { IsOk result × Said 33 (difference_line first second) page.old page.new }
+    requires { 33 ≤ length (contents page.old).rest }
+    ensures { IsOk result × Said 33 (difference_line first second) (contents page.old) (contents page.new) }
 {
     if first < second {
         put_line(b"difference -", second - first, page)
@@ -79,8 +80,8 @@ fn put_difference(first: u64, second: u64, page: &mut Page<'_>) -> Result<(), Fu
 
 #[tactic(auto, using(crate::proofs::Printing::twenty))]
 fn put_lead(name: &[u8], lead: Lead, page: &mut Page<'_>) -> Result<(), Full>
-    requires { length name.now + 45 ≤ length page.old.rest }
-    ensures { IsOk result × Said (length name.now + 45) (lead_line name.now lead) page.old page.new }
+    requires { length name.now + 45 ≤ length (contents page.old).rest }
+    ensures { IsOk result × Said (length name.now + 45) (lead_line name.now lead) (contents page.old) (contents page.new) }
 {
     page.put_bytes(name)?;
     page.put_decimal(lead.ticks)?;

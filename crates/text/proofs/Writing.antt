@@ -5,6 +5,7 @@ use mathlib.Core.List.{List, [], ◌++◌, append_assoc, append-nil}
 use Prim.Native.Nat.{ℕ, ◌+◌, ◌-◌, ◌≤◌}
 use native.Mathlib.Nat.{add-zero}
 use native.Mathlib.Omega.{arith}
+use Rattle.std.specs.Borrow.{GName}
 use lib.ListN.{length, take, drop, length-append, length-drop}
 use lib.Seq.{drop-drop}
 use borrow.Rule.Slice.PartMut.{put_mid}
@@ -28,12 +29,13 @@ module _ (bytes text part : List ℕ) (at end : ℕ) (part_is : part ≡ text) (
       ∙ ap (λ (n : ℕ). drop n bytes) end_is
       ∙ sym (drop-drop (length text) at bytes)
 
-  pub copied : (before : Contents) → record { text = take at bytes; rest = drop at bytes } ≡ before → Wrote text before (record { text = take end (put_mid at (end - at) bytes part); rest = drop end (put_mid at (end - at) bytes part) })
-  copied before e =
+  pub copied : (lent : GName) (before : Contents) → record { text = take at bytes; rest = drop at bytes; lent = lent } ≡ before → Wrote text before (record { text = take end (put_mid at (end - at) bytes part); rest = drop end (put_mid at (end - at) bytes part); lent = lent })
+  copied lent before e =
       record {
         text_is = text_is ∙ ap (λ (p : Contents). p.text ++ text) e;
         rest_is = rest_is ∙ ap (λ (p : Contents). drop (length text) p.rest) e;
         inside = omega (arith, ap length rest_is, ap (λ (p : Contents). length p.rest) e, length-drop (length text) (drop at bytes), length-drop at bytes);
+        same_buffer = ap (λ (p : Contents). p.lent) e;
       }
 
 -- a text by another name
@@ -42,7 +44,7 @@ same_text {before = before} {after} r e p = subst (λ (l : List ℕ). Put l befo
 
 -- nothing written
 pub nothing : (page : Contents) → Wrote [] page page
-nothing page = record { text_is = sym (append-nil page.text); rest_is = refl; inside = add-zero (length page.rest) }
+nothing page = record { text_is = sym (append-nil page.text); rest_is = refl; inside = add-zero (length page.rest); same_buffer = refl }
 
 -- two writers in a row
 pub then : {t u : List ℕ} {before middle after : Contents} → Wrote t before middle → Wrote u middle after → Wrote (t ++ u) before after
@@ -51,6 +53,7 @@ then {t} {u} {before} w v =
       text_is = v.text_is ∙ ap (λ (l : List ℕ). l ++ u) w.text_is ∙ append_assoc before.text t u;
       rest_is = v.rest_is ∙ ap (λ (l : List ℕ). drop (length u) l) w.rest_is ∙ drop-drop (length u) (length t) before.rest ∙ ap (λ (n : ℕ). drop n before.rest) (sym (length-append t u));
       inside = omega (arith, v.inside, w.inside, length-append t u);
+      same_buffer = v.same_buffer ∙ w.same_buffer;
     }
 
 -- a writer that has room does not refuse

@@ -9,6 +9,7 @@ pub record Wrote (text : List ℕ) (before after : Contents) : Type 0 where
   pub text_is : after.text ≡ before.text ++ text
   pub rest_is : after.rest ≡ drop (length text) before.rest
   pub inside : length after.rest + length text ≡ length before.rest
+  pub same_buffer : after.lent ≡ before.lent
 
 -- A writer that wants `most` bytes of room before it starts. Without them it writes nothing, and says so.
 abbrev pub InRoom : ℕ → (Contents → Contents → Type 0) → Contents → Contents → Result Unit Full → Type 0

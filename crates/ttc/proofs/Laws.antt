@@ -76,7 +76,7 @@ module _ (reference frequency : ℕ) {whole : ℕ} (some : 0 < frequency) (is_wh
   after : (k : ℕ) → whole / 2 ^ k ≡ ticks reference frequency k
   after k = rw is_whole (halved reference frequency k)
 
-  cut_right : {k : ℕ} → Cut whole k → Right reference frequency (answered (record { prescaler_reg = Some (k - 1); interval_ticks = whole / 2 ^ k }))
+  pub cut_right : {k : ℕ} → Cut whole k → Right reference frequency (answered (record { prescaler_reg = Some (k - 1); interval_ticks = whole / 2 ^ k }))
   cut_right {k = zero} c = absurd (lt_irrefl 0 c.some)
   cut_right {k = suc p} c =
       subst₂ (λ (v n : ℕ). Right reference frequency (answered (record { prescaler_reg = Some v; interval_ticks = n }))) (omega arith) (sym (after (suc p)))
