@@ -34,7 +34,7 @@ cpu_same (cpu.clocks p q) (cpu.clocks r s) = refl
 pub cpu_made : {pll divisor x₁ x₂ x₃ : ℕ} (ratio : CpuClockRatio) → 0 < divisor → divisor ≤ 63
     → x₁ ≡ one ratio (pll / divisor) → x₂ ≡ one ratio (pll / divisor) * 2 → x₃ ≡ one ratio (pll / divisor) * times_3x2x ratio
     → CpuRight pll ratio divisor
-      (answered (record { ref_clk = pll; ratio = ratio; cpu_1x_clk = x₁; cpu_2x_clk = x₂; cpu_3x2x_clk = x₃; cpu_6x4x_clk = pll / divisor }))
+    (answered (record { ref_clk = pll; ratio = ratio; cpu_1x_clk = x₁; cpu_2x_clk = x₂; cpu_3x2x_clk = x₃; cpu_6x4x_clk = pll / divisor }))
 cpu_made ratio some fits p q r = rw (p, q, r) (cpu.clocks some fits)
 
 -- a zero divisor is none that is there, and one too wide is none that fits
