@@ -84,15 +84,14 @@ impl Run {
         Some(PllSequence { plan, place })
     }
 
-    // The plan stays, but for the polls that are left.
+    // The plan stays, but for the polls that are left. It is changed in place, so that it is copied whole and not number by number.
     fn at(plan: Plan, place: Place) -> Run
         ensures { result ≡ run_at plan place }
     {
+        let mut plan = plan;
+        plan.polls = place.polls;
         Run {
-            plan: Plan {
-                polls: place.polls,
-                ..plan
-            },
+            plan,
             done: place.at,
             word: place.word,
         }

@@ -55,14 +55,22 @@ impl PllSequence {
         let Some(last) = self.place.at.checked_sub(1) else {
             return self;
         };
+        // Changed in place: a place that is built anew is packed and unpacked at each step.
+        let mut next = self;
         match row(self.plan, last, word) {
-            Due::Read(_) => self.at(Place { word, ..self.place }),
-            Due::Poll(_) if locked(self.plan.pll, word) => self.at(Place { word, ..self.place }),
-            Due::Poll(_) => self.at(Place {
-                at: last,
-                word,
-                ..self.place
-            }),
+            Due::Read(_) => {
+                next.place.word = word;
+                next
+            }
+            Due::Poll(_) if locked(self.plan.pll, word) => {
+                next.place.word = word;
+                next
+            }
+            Due::Poll(_) => {
+                next.place.at = last;
+                next.place.word = word;
+                next
+            }
             Due::Write(_, _) | Due::End => self,
         }
     }

@@ -2,17 +2,14 @@
 ghost use Rattle.std.specs.Prelude.{◌≡◌, ◌∷◌};
 ghost use Rattle.words.specs.Words.{words, further, First, place_of};
 
-// The first place of a byte from `from` on. A loop over places and no `position`, which takes 8 instructions a byte for these 5: most of what
-// the desk does with a comment.
+use memchr::memchr;
+
+// The first place of a byte from `from` on. By the kit's search, which looks at many bytes at once: most of what the desk does with a long line.
 pub fn until(line: &[u8], from: usize, byte: u8) -> Option<usize>
     ensures { First line.now from byte result }
 {
-    for at in from..line.len() {
-        if line[at] == byte {
-            return Some(at);
-        }
-    }
-    None
+    let place = memchr(byte, line.get(from..)?)?;
+    Some(from + place)
 }
 
 // The first word, and what stands behind the space that ends it, if one does.

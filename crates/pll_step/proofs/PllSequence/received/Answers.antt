@@ -11,11 +11,11 @@ returns-in-Poll c =
     let s = c.args.self in
     let seen = sym c.locked.ensures ∙ c.if-locked.true in
     let same = polled s.plan s.place c.args.word _ c.in-Some.last true _ (omega (arith, c.in-Some.ensures)) c.row.ensures c.in-Poll.is seen in
-    c.at-in-Poll.ensures ∙ ap (λ (p : Place). record { plan = s.plan; place = p }) same
+    ap (λ (p : Place). record { plan = s.plan; place = p }) same
 
 pub returns-in-Poll-2 : goal.returns-in-Poll-2
 returns-in-Poll-2 c =
     let s = c.args.self in
     let not_seen = sym c.locked.ensures ∙ c.if-locked.false in
     let same = polled s.plan s.place c.args.word _ c.in-Some.last false _ (omega (arith, c.in-Some.ensures)) c.row.ensures c.in-Poll-2.is not_seen in
-    c.at-in-Poll-2.ensures ∙ ap (λ (p : Place). record { plan = s.plan; place = p }) same
+    ap (λ (p : Place). record { plan = s.plan; place = p }) same
