@@ -1,9 +1,11 @@
 -- A line's words are the parts that `split` gives at spaces; its first word; and looking a word up among names.
 use mathlib.Core.Path.{◌≡◌, refl, sym, ap, ◌∙◌, subst}
 use mathlib.Core.Bool.{Bool, true, false, cond}
+use mathlib.Core.Logic.{◌⊎◌, inl, inr}
 use mathlib.Core.List.{List, [], ◌∷◌}
-use Prim.Native.Nat.{ℕ, zero, suc, ◌+◌, ◌-◌, ◌<◌, suc-le-suc, zero-le}
+use Prim.Native.Nat.{ℕ, zero, suc, ◌+◌, ◌-◌, ◌<◌, ◌≤◌, suc-le-suc, zero-le}
 use native.Mathlib.Nat.{le_of_suc-le-suc, add-zero, zero-add}
+use native.Mathlib.Decide.{dec_le}
 use native.Mathlib.Omega.{arith}
 use borrow.Author.Tests.{eq-eqb, ne_eqb, eqb-true}
 use lib.Dec.{eqb}
@@ -18,7 +20,7 @@ use Rattle.std.proofs.lemmas.Iterator.{YieldsList}
 use Rattle.std.proofs.lemmas.Iterator.Splits.{YieldsList-from_slice_split}
 use Rattle.std.specs.List.{slice_split, onto_first, AllWithin, HoldsAt}
 use Rattle.words.proofs.Choosing.{chosen, never}
-use Rattle.words.specs.Words.{before, words, First, equal, place_after, place_of}
+use Rattle.words.specs.Words.{before, words, Until, First, equal, place_after, place_of}
 
 before_is : (c : ℕ) (ws : List (List ℕ)) → before c ws ≡ onto_first c ws
 before_is c [] = refl
@@ -108,3 +110,24 @@ place_after_below i word (name ∷ names) {j} e = chosen (equal word name) (λ t
 pub place_below : (word : List ℕ) (names : List (List ℕ)) {j : ℕ} → place_of word names ≡ Some j → j < length names
 unfolding place_of
 place_below word names e = omega (arith, place_after_below 0 word names e)
+
+-- a byte that is not found before a place is looked for from there on
+module _ (line : List ℕ) (from near byte : ℕ) (none : (k : ℕ) → k < near - from → get_or line (from + k) 0 ≡ byte → ⊥) where
+  further_on : {end : ℕ} → from ≤ near → Until line near byte end → Until line from byte end
+  further_on le u =
+      record {
+        begun = omega (arith, u.begun);
+        inside = u.inside;
+        none_before = λ k h e.
+            elim (dec_le near (from + k)) [
+              | yes past ↦ u.none_before (from + k - near) (omega (arith, u.begun)) (ap (λ (j : ℕ). get_or line j 0) (omega arith) ∙ e)
+              | no before ↦ none k (omega arith) e
+            ];
+        there = u.there;
+      }
+
+  pub joined : (r : Option ℕ) → near ≤ length line → (from ≤ near) ⊎ (near ≡ length line) → First line near byte r → First line from byte r
+  joined (Some end) inside (inl le) f = (further_on le f.0, f.1)
+  joined (Some end) inside (inr at_end) f = absurd (omega (arith, f.0.begun, f.1))
+  joined None inside (inl le) f = λ from_inside. further_on le (f inside)
+  joined None inside (inr at_end) f = λ from_inside. further_on (omega arith) (f inside)

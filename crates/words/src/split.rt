@@ -4,8 +4,24 @@ ghost use Rattle.words.specs.Words.{words, further, First, place_of};
 
 use memchr::memchr;
 
-// The first place of a byte from `from` on. By the kit's search, which looks at many bytes at once: most of what the desk does with a long line.
+// How far a byte is looked for one by one.
+const NEAR: usize = 16;
+
+// The first place of a byte from `from` on. A near one is found soonest byte by byte, and a far one by the kit's search, which looks at many
+// bytes at once.
 pub fn until(line: &[u8], from: usize, byte: u8) -> Option<usize>
+    ensures { First line.now from byte result }
+{
+    let near = line.len().min(from.saturating_add(NEAR));
+    for at in from..near {
+        if line[at] == byte {
+            return Some(at);
+        }
+    }
+    far(line, near, byte)
+}
+
+fn far(line: &[u8], from: usize, byte: u8) -> Option<usize>
     ensures { First line.now from byte result }
 {
     let place = memchr(byte, line.get(from..)?)?;
