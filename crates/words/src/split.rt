@@ -7,11 +7,14 @@ use memchr::memchr;
 // How far a byte is looked for one by one.
 const NEAR: usize = 16;
 
-// The first place of a byte from `from` on. A near one is found soonest byte by byte, and a far one by the kit's search, which looks at many
-// bytes at once.
+// The first place of a byte from `from` on. A near one is found soonest byte by byte, the first by itself, since of a blank line there is no
+// other; and a far one by the kit's search, which looks at many bytes at once.
 pub fn until(line: &[u8], from: usize, byte: u8) -> Option<usize>
     ensures { First line.now from byte result }
 {
+    if from < line.len() && line[from] == byte {
+        return Some(from);
+    }
     let near = line.len().min(from.saturating_add(NEAR));
     for at in from..near {
         if line[at] == byte {
@@ -21,6 +24,8 @@ pub fn until(line: &[u8], from: usize, byte: u8) -> Option<usize>
     far(line, near, byte)
 }
 
+// By itself, so that a near byte costs no more for it.
+#[inline(never)]
 fn far(line: &[u8], from: usize, byte: u8) -> Option<usize>
     ensures { First line.now from byte result }
 {
