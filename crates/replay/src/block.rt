@@ -17,7 +17,9 @@ pub struct Taken {
     pub used: usize,
 }
 
-// The whole samples of a block. One that is longer than the rows have room for is not taken.
+// The whole samples of a block. One that is longer than the rows have room for is not taken. By itself: within `main` its loop lacks a register,
+// and takes a third more time.
+#[inline(never)]
 pub fn feed_block(trace: Trace, block: &[u8]) -> Option<Taken>
     ensures { Within (length block.now) BLOCK (IsSomeAnd result (Takes trace block.now)) (IsNone result) }
 {
